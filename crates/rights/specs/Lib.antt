@@ -1,0 +1,4 @@
+pub mod Vault
+pub mod Passwords
+pub mod Blocks
+pub mod Registers

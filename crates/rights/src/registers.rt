@@ -1,0 +1,164 @@
+// Registers by their addresses (003, Table 10).
+use super::Areas;
+use super::Vault;
+use super::Verdict;
+use super::View;
+use super::passwords::is_open;
+ghost use mathlib.Core.Path.{_≡_};
+ghost use mathlib.Core.Bool.{_&&_};
+ghost use Rattle.put.specs.If.{if_then_else_};
+ghost use Rattle.rights.specs.Registers.{registerAt, isRegister, allows, permits, writtenOf, withRegister, writeOf, readVerdict, writtenVerdict, endRule, pairRule, possible};
+
+pub enum RegisterRead {
+    Unknown,
+    Value(u8),
+}
+
+pub enum Written {
+    Unknown,
+    NotPermitted,
+    NotAllowed,
+    Done,
+}
+
+pub struct RegisterWrite {
+    pub answer: Written,
+    pub vault: Vault,
+}
+
+fn bit(set: bool) -> u8
+    ensures { λ r. ⌜ r ≡ (if set then 1 else 0) ⌝ }
+{
+    if set {
+        return 1;
+    }
+    0
+}
+
+pub fn read_register(v: View, address: u8) -> RegisterRead
+    ensures { λ r. ⌜ r ≡ registerAt v address ⌝ }
+{
+    let a = v.areas;
+    match address {
+        0x04 => RegisterRead::Value(a.rfa1ss),
+        0x05 => RegisterRead::Value(a.enda1),
+        0x06 => RegisterRead::Value(a.rfa2ss),
+        0x07 => RegisterRead::Value(a.enda2),
+        0x08 => RegisterRead::Value(a.rfa3ss),
+        0x09 => RegisterRead::Value(a.enda3),
+        0x0A => RegisterRead::Value(a.rfa4ss),
+        0x0F => RegisterRead::Value(bit(v.lockcfg)),
+        _ => RegisterRead::Unknown,
+    }
+}
+
+fn is_register(address: u8) -> bool
+    ensures { λ r. ⌜ r ≡ isRegister address ⌝ }
+{
+    ((0x04 <= address) & (address <= 0x0A)) | (address == 0x0F)
+}
+
+fn allowed(e: u8, a: Areas, address: u8, value: u8) -> bool
+    ensures { λ r. ⌜ r ≡ allows e a address value ⌝ }
+{
+    match address {
+        0x05 => (value <= e) & ((a.enda2 == e) & (a.enda3 == e)),
+        0x07 => (value <= e) & ((a.enda1 < value) & (a.enda3 == e)),
+        0x09 => (value <= e) & (a.enda2 < value),
+        0x0F => value <= 0x01,
+        _ => value <= 0x0F,
+    }
+}
+
+fn permitted(v: View) -> bool
+    ensures { λ r. ⌜ r ≡ permits v ⌝ }
+{
+    let s = v.session;
+    is_open(s, 0) & !v.lockcfg
+}
+
+fn write_answer(e: u8, v: View, address: u8, value: u8) -> Written
+    ensures { λ r. ⌜ r ≡ writtenOf e v address value ⌝ }
+{
+    if !is_register(address) {
+        return Written::Unknown;
+    }
+    if !permitted(v) {
+        return Written::NotPermitted;
+    }
+    let a = v.areas;
+    if !allowed(e, a, address, value) {
+        return Written::NotAllowed;
+    }
+    Written::Done
+}
+
+fn set_register(mut v: Vault, address: u8, value: u8) -> Vault
+    ensures { λ r. ⌜ r ≡ withRegister v address value ⌝ }
+{
+    match address {
+        0x04 => v.areas.rfa1ss = value,
+        0x05 => v.areas.enda1 = value,
+        0x06 => v.areas.rfa2ss = value,
+        0x07 => v.areas.enda2 = value,
+        0x08 => v.areas.rfa3ss = value,
+        0x09 => v.areas.enda3 = value,
+        0x0A => v.areas.rfa4ss = value,
+        0x0F => v.lockcfg = value == 0x01,
+        _ => {}
+    }
+    v
+}
+
+// A write of a register, of a tag whose last end is e.
+pub fn write_register(e: u8, v: Vault, address: u8, value: u8) -> RegisterWrite
+    ensures { λ r. ⌜ r ≡ writeOf e v address value ⌝ }
+{
+    let view = super::seen(v);
+    let answer = write_answer(e, view, address, value);
+    match answer {
+        Written::Unknown => RegisterWrite { answer, vault: v },
+        Written::NotPermitted => RegisterWrite { answer, vault: v },
+        Written::NotAllowed => RegisterWrite { answer, vault: v },
+        Written::Done => RegisterWrite {
+            answer,
+            vault: set_register(v, address, value),
+        },
+    }
+}
+
+pub fn read_verdict(r: RegisterRead) -> Verdict
+    ensures { λ v. ⌜ v ≡ readVerdict r ⌝ }
+{
+    match r {
+        RegisterRead::Unknown => Verdict::Error(0x10),
+        RegisterRead::Value(_) => Verdict::Success,
+    }
+}
+
+pub fn written_verdict(w: Written) -> Verdict
+    ensures { λ v. ⌜ v ≡ writtenVerdict w ⌝ }
+{
+    match w {
+        Written::Unknown => Verdict::Error(0x10),
+        Written::NotPermitted => Verdict::Error(0x0F),
+        Written::NotAllowed => Verdict::Error(0x13),
+        Written::Done => Verdict::Success,
+    }
+}
+
+fn end_rules(e: u8, x: u8, y: u8) -> bool
+    ensures { λ r. ⌜ r ≡ (endRule e y && pairRule e x y) ⌝ }
+{
+    (y <= e) & ((!(x < e) | (x < y)) & (!(x == e) | (y == e)))
+}
+
+// The record rules for registers and ends, of a tag whose last end is e.
+pub fn possible_areas(e: u8, a: Areas) -> bool
+    ensures { λ r. ⌜ r ≡ possible e a ⌝ }
+{
+    let first = (a.rfa1ss <= 0x0F) & (a.enda1 <= e);
+    let second = (a.rfa2ss <= 0x0F) & end_rules(e, a.enda1, a.enda2);
+    let third = (a.rfa3ss <= 0x0F) & end_rules(e, a.enda2, a.enda3);
+    (first & second) & (third & (a.rfa4ss <= 0x0F))
+}
