@@ -1,7 +1,7 @@
 -- "Passwords and registers", the passwords: presenting and changing one.
 -- Assumes nothing.
 use Prim.Native.Nat.{ℕ}
-use mathlib.Core.Bool.{Bool, false}
+use mathlib.Core.Bool.{Bool, true, false}
 use lib.ListN.{getD, set}
 use lib.Dec.{ltb, eqb}
 use Rattle.put.specs.If.{if_then_else_}
@@ -32,6 +32,13 @@ isOpen Configuration n = eqb n 0
 isOpen User1 n = eqb n 1
 isOpen User2 n = eqb n 2
 isOpen User3 n = eqb n 3
+
+abbrev pub anyOpen : Session → Bool
+anyOpen None = false
+anyOpen Configuration = true
+anyOpen User1 = true
+anyOpen User2 = true
+anyOpen User3 = true
 
 abbrev pub passwordOf : Keys → ℕ → ℕ
 passwordOf k n = getD (k .passwords) n 0

@@ -3,7 +3,7 @@ use super::Keys;
 use super::Session;
 use super::Verdict;
 ghost use mathlib.Core.Path.{_≡_};
-ghost use Rattle.rights.specs.Passwords.{isOpen, sessionOf, presentOf, changeOf, presentedVerdict, changedVerdict};
+ghost use Rattle.rights.specs.Passwords.{isOpen, anyOpen, sessionOf, presentOf, changeOf, presentedVerdict, changedVerdict};
 
 pub enum Presented {
     NumberOver,
@@ -37,6 +37,19 @@ pub fn is_open(s: Session, n: u8) -> bool
         Session::User1 => n == 1,
         Session::User2 => n == 2,
         Session::User3 => n == 3,
+    }
+}
+
+// Whether any session is open.
+pub fn any_open(s: Session) -> bool
+    ensures { λ r. ⌜ r ≡ anyOpen s ⌝ }
+{
+    match s {
+        Session::None => false,
+        Session::Configuration => true,
+        Session::User1 => true,
+        Session::User2 => true,
+        Session::User3 => true,
     }
 }
 

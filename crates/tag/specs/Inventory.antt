@@ -1,0 +1,84 @@
+-- "Inventory": its fields, one slot and sixteen, the round, and the end of a frame.
+-- Assumes nothing.
+use Prim.Native.Nat.{ℕ, _+_, _-_, _/_, _%_, _^_}
+use mathlib.Core.Bool.{Bool, not, _&&_, _||_}
+use mathlib.Core.List.{List, _∷_}
+use lib.ListN.{getD}
+use lib.Dec.{ltb, eqb}
+use Rattle.put.specs.If.{if_then_else_}
+use Rattle.put.specs.Number.{numberAt, bytesOf}
+use Rattle.record.specs.declared.Front.{Front}
+use Rattle.record.specs.declared.Round.{Round}
+use Rattle.record.specs.declared.Round.the-variants as round
+use Rattle.record.specs.Update.{withRound}
+use Rattle.tag.specs.Rules.{isQuiet}
+use Rattle.tag.specs.Frame.{flagBit, endOf, fieldsFrom}
+use Rattle.tag.specs.Work.{Answer, silence, body, Work, work, says}
+
+-- "AFI if bit 5 is set"
+abbrev pub afiFlag : List ℕ → Bool
+afiFlag f = flagBit 5 f
+
+-- "Bit 6 set means 1 slot"
+abbrev pub oneSlot : List ℕ → Bool
+oneSlot f = flagBit 6 f
+
+-- the fields: "AFI if bit 5 is set, mask length, then mask bytes"
+abbrev pub inventoryFields : List ℕ → List ℕ
+inventoryFields f = fieldsFrom 2 f
+
+-- the mask length's place
+abbrev pub maskAt : List ℕ → ℕ
+maskAt f = if afiFlag f then 1 else 0
+
+abbrev pub maskLength : List ℕ → ℕ
+maskLength f = getD (inventoryFields f) (maskAt f) 0
+
+-- "1 slot, mask length at most 64; clear means 16 slots, at most 60"
+unfoldable pub maskTooLong : List ℕ → Bool
+maskTooLong f = ltb (if oneSlot f then 64 else 60) (maskLength f)
+
+-- "mask bytes (length over 8, rounded up)"; "wrong frame length: silence"
+unfoldable pub wrongLength : List ℕ → Bool
+wrongLength f = not (eqb (endOf f - 2) (maskAt f + 1 + (maskLength f + 7) / 8))
+
+-- "Request AFI matches if it is 00h or equals the stored AFI."
+unfoldable pub afiMatches : ℕ → ℕ → Bool
+afiMatches asked stored = eqb asked 0x00 || eqb asked stored
+
+unfoldable pub afiFits : Front → List ℕ → Bool
+afiFits t f = not (afiFlag f) || afiMatches (getD (inventoryFields f) 0 0) (t .afi)
+
+-- "The lowest mask-length bits of the UID must match", "spare bits not compared"
+unfoldable pub maskFits : Front → List ℕ → Bool
+maskFits t f =
+    eqb (t .uid % 2 ^ maskLength f) (numberAt 8 (inventoryFields f) (maskAt f + 1) % 2 ^ maskLength f)
+
+-- "the next four UID bits are the slot", after so many bits of mask
+unfoldable pub slotOf : Front → ℕ → ℕ
+slotOf t mask = t .uid / 2 ^ mask % 16
+
+-- "Answer: 00h, DSFID, UID, CRC."
+abbrev pub inventoryAnswer : Front → Answer
+inventoryAnswer t = body (t .dsfid ∷ bytesOf 8 (t .uid))
+
+-- the answer of a tag whose slot is that of the round
+unfoldable pub inSlot : Front → ℕ → ℕ → Answer
+inSlot t slot mask = if eqb (slotOf t mask) slot then inventoryAnswer t else silence
+
+-- "Longer, or wrong frame length: silence. Quiet: silence." "Where either differs: silence, and no round opens. With 16 slots, the next four
+-- UID bits are the slot; slot 0 speaks at once"
+unfoldable pub inventoryOf : Front → List ℕ → Work
+inventoryOf t f =
+    if maskTooLong f || wrongLength f then work t (says silence) else
+    if isQuiet (t .state) then work t (says silence) else
+    if not (afiFits t f && maskFits t f) then work t (says silence) else
+    if oneSlot f then work t (says (inventoryAnswer t)) else
+    work (withRound t (round.Open 0 (maskLength f))) (says (inSlot t 0 (maskLength f)))
+
+-- "each end of frame moves one slot on; an end of frame in slot 15 closes the round"
+unfoldable pub nextSlot : Front → ℕ → ℕ → Work
+nextSlot t slot mask =
+    if ltb slot 15
+    then work (withRound t (round.Open (slot + 1) mask)) (says (inSlot t (slot + 1) mask))
+    else work (withRound t round.None) (says silence)

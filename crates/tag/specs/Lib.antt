@@ -1,0 +1,10 @@
+pub mod Rules
+pub mod Table
+pub mod Frame
+pub mod Work
+pub mod Inventory
+pub mod Blocks
+pub mod Commands
+pub mod Step
+pub mod Image
+pub mod Host
