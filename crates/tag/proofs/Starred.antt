@@ -1,7 +1,7 @@
 -- The starred bench cases of document 01, one table with one claim over it, which antt computes. Expected bytes are literals: of 01, or of
 -- the second model where 01 gives no bytes.
 -- Assumes nothing.
-use Prim.Native.Nat.{ℕ, _+_}
+use Prim.Native.Nat.{ℕ, suc}
 use mathlib.Core.Path.{_≡_, refl}
 use mathlib.Core.Bool.{Bool, true, false, _&&_}
 use mathlib.Core.List.{List, [], _∷_, _++_, reverse}
@@ -16,11 +16,11 @@ use Rattle.rights.specs.Blocks.{areaOf, registerOf, serves, mayRead, mayWrite, 
 use Rattle.rights.specs.Registers.{registerAt, isRegister, allows, permits, writtenOf, withRegister}
 use Rattle.record.specs.declared.Tag.{Tag}
 use Rattle.record.specs.Update.{withVault}
-use Rattle.tag.specs.Table.{entryOf, firstOf, moreOf, dataOf, limitOf, lengthOf}
+use Rattle.tag.specs.Table.{entryOf, firstOf, moreOf, headOf, limitOf, lengthOf}
 use Rattle.tag.specs.Frame.{check2, check3, check4, custom, check5, afterCode, fieldsAt, otherUid, check6, selectOfAnother, check7, check8, check9, check10, heardOf}
 use Rattle.tag.specs.Work.{listing, applyToTag, applyToMemory, perform}
-use Rattle.tag.specs.Inventory.{maskTooLong, wrongLength, afiMatches, afiFits, maskFits, slotOf, inSlot, inventoryOf, nextSlot}
-use Rattle.tag.specs.Blocks.{readOf, statuses, statusOf, writeVerdict, blockUnits, writeOf, lockVerdict, lockOf}
+use Rattle.tag.specs.Inventory.{maskTooLong, wrongLength, afiMatches, afiFits, maskFits, slotOf, inSlot, unheard, inventoryOf, nextSlot}
+use Rattle.tag.specs.Blocks.{readVerdict, statuses, statusVerdict, writeVerdict, blockUnits, lockVerdict}
 use Rattle.tag.specs.Commands.{actOf, requestOf}
 use Rattle.tag.specs.Step.{Event, fieldOn, request, frameOf, workOf, step, run}
 use Rattle.tag.specs.Image.{factory}
@@ -52,10 +52,10 @@ holds (checked s c) = same (crcBytes s) c
 holds (placed a b i) = eqb (areaOf a b) i
 holds (played t m es answers after) = let r = run t m es in sameAll (r .answers) answers && same (r .memory) after
 
--- the numbers of the cases that do not hold
-pub failing : ℕ → List Case → List ℕ
-failing n [] = []
-failing n (c ∷ cs) = let rest = failing (n + 1) cs in if holds c then rest else n ∷ rest
+-- every case of a list holds, numbered from n on: where one does not, antt refuses the line of its number
+pub data Hold : ℕ → List Case → Type 0 where
+  end : {n : ℕ} → Hold n []
+  case : (n : ℕ) {c : Case} {cs : List Case} → holds c ≡ true → Hold (suc n) cs → Hold n (c ∷ cs)
 
 -- ---- the tags and memories of the cases
 
@@ -138,9 +138,24 @@ cases =
     (replicate 2048 0)
     ∷ []
 
-pub starred : failing 0 cases ≡ []
-unfolding cases holds failing same sameAll ends ours low withAreas split splitHidden filled bytes numberAt bytesOf crcBit crcBits crcByte crcFrom crcOf crcBytes sessionOf isOpen presentOf changedOf areaOf registerOf serves mayRead mayWrite readableAt writableAt lockedAt barredAt statusAt crossesAt anyBarred registerAt isRegister allows permits writtenOf withRegister entryOf firstOf moreOf dataOf limitOf lengthOf check2 check3 check4 custom check5 afterCode fieldsAt otherUid check6 selectOfAnother check7 check8 check9 check10 heardOf listing applyToTag applyToMemory perform maskTooLong wrongLength afiMatches afiFits maskFits slotOf inSlot inventoryOf nextSlot readOf statuses statusOf writeVerdict blockUnits writeOf lockVerdict lockOf actOf requestOf frameOf workOf step run factory
-starred = refl
+pub starred : Hold 0 cases
+unfolding cases holds same sameAll ends ours low withAreas split splitHidden filled bytes numberAt bytesOf crcBit crcBits crcByte crcFrom crcOf crcBytes sessionOf isOpen presentOf changedOf areaOf registerOf serves mayRead mayWrite readableAt writableAt lockedAt barredAt statusAt crossesAt anyBarred registerAt isRegister allows permits writtenOf withRegister entryOf firstOf moreOf headOf limitOf lengthOf check2 check3 check4 custom check5 afterCode fieldsAt otherUid check6 selectOfAnother check7 check8 check9 check10 heardOf listing applyToTag applyToMemory perform maskTooLong wrongLength afiMatches afiFits maskFits slotOf inSlot unheard inventoryOf nextSlot readVerdict statuses statusVerdict writeVerdict blockUnits lockVerdict actOf requestOf frameOf workOf step run factory
+starred =
+    case 0 refl
+    (case 1 refl
+    (case 2 refl
+    (case 3 refl
+    (case 4 refl
+    (case 5 refl
+    (case 6 refl
+    (case 7 refl
+    (case 8 refl
+    (case 9 refl
+    (case 10 refl
+    (case 11 refl
+    (case 12 refl
+    (case 13 refl
+    end)))))))))))))
 
 -- ---- the session that 01 prints, over `run`
 
@@ -165,5 +180,5 @@ printed =
     ∷ []
 
 pub session-answered : run (factory 63 ours) (replicate 2048 0) session .answers ≡ printed
-unfolding session printed ours bytes numberAt bytesOf crcBit crcBits crcByte crcFrom crcOf crcBytes sessionOf isOpen presentOf changedOf areaOf registerOf serves mayRead mayWrite readableAt writableAt lockedAt barredAt statusAt crossesAt anyBarred registerAt isRegister allows permits writtenOf withRegister entryOf firstOf moreOf dataOf limitOf lengthOf check2 check3 check4 custom check5 afterCode fieldsAt otherUid check6 selectOfAnother check7 check8 check9 check10 heardOf listing applyToTag applyToMemory perform maskTooLong wrongLength afiMatches afiFits maskFits slotOf inSlot inventoryOf nextSlot readOf statuses statusOf writeVerdict blockUnits writeOf lockVerdict lockOf actOf requestOf frameOf workOf step run factory
+unfolding session printed ours bytes numberAt bytesOf crcBit crcBits crcByte crcFrom crcOf crcBytes sessionOf isOpen presentOf changedOf areaOf registerOf serves mayRead mayWrite readableAt writableAt lockedAt barredAt statusAt crossesAt anyBarred registerAt isRegister allows permits writtenOf withRegister entryOf firstOf moreOf headOf limitOf lengthOf check2 check3 check4 custom check5 afterCode fieldsAt otherUid check6 selectOfAnother check7 check8 check9 check10 heardOf listing applyToTag applyToMemory perform maskTooLong wrongLength afiMatches afiFits maskFits slotOf inSlot unheard inventoryOf nextSlot readVerdict statuses statusVerdict writeVerdict blockUnits lockVerdict actOf requestOf frameOf workOf step run factory
 session-answered = refl

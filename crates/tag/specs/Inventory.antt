@@ -66,13 +66,14 @@ inventoryAnswer t = body (t .dsfid ∷ bytesOf 8 (t .uid))
 unfoldable pub inSlot : Front → ℕ → ℕ → Answer
 inSlot t slot mask = if eqb (slotOf t mask) slot then inventoryAnswer t else silence
 
--- "Longer, or wrong frame length: silence. Quiet: silence." "Where either differs: silence, and no round opens. With 16 slots, the next four
--- UID bits are the slot; slot 0 speaks at once"
+-- "Longer, or wrong frame length: silence. Quiet: silence." "Where either differs: silence"
+unfoldable pub unheard : Front → List ℕ → Bool
+unheard t f = (maskTooLong f || wrongLength f) || (isQuiet (t .state) || not (afiFits t f && maskFits t f))
+
+-- ".. and no round opens. With 16 slots, the next four UID bits are the slot; slot 0 speaks at once"
 unfoldable pub inventoryOf : Front → List ℕ → Work
 inventoryOf t f =
-    if maskTooLong f || wrongLength f then work t (says silence) else
-    if isQuiet (t .state) then work t (says silence) else
-    if not (afiFits t f && maskFits t f) then work t (says silence) else
+    if unheard t f then work t (says silence) else
     if oneSlot f then work t (says (inventoryAnswer t)) else
     work (withRound t (round.Open 0 (maskLength f))) (says (inSlot t 0 (maskLength f)))
 

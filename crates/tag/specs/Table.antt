@@ -65,8 +65,12 @@ firstOf e fields = if e .wide then numberAt 2 fields 0 else getD fields 0 0
 unfoldable pub moreOf : Entry → List ℕ → ℕ
 moreOf e fields = if e .many then (if e .wide then numberAt 2 fields 2 else getD fields 1 0) else 0
 
-unfoldable pub dataOf : Entry → List ℕ → List ℕ
-dataOf e fields = drop ((if e .wide then 2 else 1) * (if e .many then 2 else 1)) fields
+-- how many bytes first block and count take; the data of a write follow them
+unfoldable pub headOf : Entry → ℕ
+headOf e = if e .wide then (if e .many then 4 else 2) else (if e .many then 2 else 1)
+
+abbrev pub dataOf : Entry → List ℕ → List ℕ
+dataOf e fields = drop (headOf e) fields
 
 -- "For one-byte commands, outside begins also at block 100h."
 unfoldable pub limitOf : Entry → ℕ → ℕ

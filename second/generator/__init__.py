@@ -1,0 +1,1 @@
+"""Cases for casebook and tagrun, from a seed."""

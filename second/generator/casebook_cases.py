@@ -1,0 +1,38 @@
+"""The casebook lines of a seed: groups of all kinds in turn."""
+
+from tagmodel.crc import with_crc
+
+from . import call_groups as calls
+from . import command_groups as commands
+from . import frame_groups as frames
+from .bench import Bench, hexed
+from .dice import Dice
+from .frames import inventory
+
+KINDS = (
+    commands.walk, commands.each_mode, commands.borders, commands.kept_areas, commands.passwords, commands.registers,
+    commands.area_orders, commands.held_answers, commands.set_held_answers, commands.identities, commands.codes,
+    commands.lengths, commands.many_blocks, commands.walk, commands.borders,
+    frames.flag_bytes, frames.other_uids, frames.short_frames, frames.field_off, frames.rounds, frames.set_rounds,
+    frames.inventories, frames.damaged_inventories,
+    calls.broken_records, calls.broken_bytes, calls.buffers, calls.images, calls.no_forms,
+    calls.broken_records, calls.broken_bytes, calls.images)
+RARE = (frames.damaged_inventories, frames.other_uids, commands.many_blocks, calls.no_forms)
+
+# Before the first group, what stands at the start is tried.
+START_LINES = (b"SAVE 2112", b"EOF", b"ON", b"REQ " + hexed(with_crc(inventory(0, b""))), b"SAVE 8256")
+
+
+def casebook_lines(seed, groups):
+    """The lines of so many groups; the kinds take turns, the rare ones every fourth time."""
+    lines = list(START_LINES) if groups else []
+    times = dict.fromkeys(KINDS, 0)
+    for group in range(groups):
+        kind = KINDS[group % len(KINDS)]
+        if kind in RARE and group // len(KINDS) % 4:
+            kind = commands.walk
+        bench = Bench(Dice(seed * 1000003 + group))
+        kind(bench, times[kind])
+        times[kind] += 1
+        lines += bench.lines
+    return lines

@@ -1,0 +1,76 @@
+"""The generator, the branch counts and the comparison."""
+
+import os
+import sys
+import unittest
+
+from generator.coverage import count_branches
+from generator.dice import Dice
+from generator.streams import casebook_stream, tagrun_stream
+from tagmodel.branches import all_branches, hit
+
+from .support import FOLDER, run_program
+
+
+class Branches(unittest.TestCase):
+    def test_every_branch_is_reached(self):
+        _, counts = count_branches(seed=3, groups=900, lines=3000)
+        self.assertEqual([name for name, count in counts.items() if count == 0], [])
+
+    def test_program(self):
+        """Too few cases leave branches at zero: the program names them and fails."""
+        code, output = run_program("branches", b"", "--groups", "1", "--lines", "1")
+        self.assertEqual(code, 1)
+        self.assertIn(b"not reached: casebook.LOAD", output)
+        self.assertNotIn(b"not reached: lines.", output)
+
+    def test_names_are_declared_once(self):
+        self.assertEqual(len(all_branches()), len(set(all_branches())))
+
+    def test_undeclared_name_is_noticed(self):
+        with self.assertRaises(KeyError):
+            hit("no such branch")
+
+
+class Generator(unittest.TestCase):
+    def test_dice_by_hand(self):
+        """From state 1: 1 xor 1 << 13 is 2001h; xor 2001h >> 7 (40h) is 2041h; xor 2041h << 17 is 40822041h."""
+        dice = Dice(0)
+        dice.state = 1
+        self.assertEqual(dice.roll(), 0x40822041)
+
+    def test_same_seed_same_lines(self):
+        self.assertEqual(casebook_stream(5, 60), casebook_stream(5, 60))
+        self.assertEqual(tagrun_stream(5, 300), tagrun_stream(5, 300))
+        self.assertNotEqual(casebook_stream(5, 60), casebook_stream(7, 60))
+        self.assertNotEqual(tagrun_stream(5, 300), tagrun_stream(7, 300))
+
+    def test_program(self):
+        self.assertEqual(run_program("generate", b"", "casebook", "--seed", "4", "--groups", "30"),
+                         (0, casebook_stream(4, 30)))
+        self.assertEqual(run_program("generate", b"", "tagrun", "--seed", "4", "--lines", "50"),
+                         (0, tagrun_stream(4, 50)))
+        self.assertEqual(tagrun_stream(4, 50).count(b"\n"), 50)
+
+    def test_last_newline(self):
+        self.assertTrue(casebook_stream(2, 5).endswith(b"\n"))
+        self.assertFalse(casebook_stream(1, 5).endswith(b"\n"))
+
+
+class Compare(unittest.TestCase):
+    def compare(self, casebook, tagrun):
+        return run_program("compare", b"", "--seed", "2", "--groups", "30", "--lines", "50",
+                           "--casebook", casebook, "--tagrun", tagrun)
+
+    def own(self, name):
+        return f"{sys.executable} {os.path.join(FOLDER, name)}"
+
+    def test_equal(self):
+        code, output = self.compare(self.own("casebook"), self.own("tagrun"))
+        self.assertEqual(code, 0, output)
+        self.assertEqual(output.count(b" 0 differ"), 2)
+
+    def test_unequal(self):
+        self.assertEqual(self.compare(self.own("casebook"), self.own("casebook"))[0], 1)
+        self.assertEqual(self.compare(self.own("tagrun"), self.own("tagrun"))[0], 1)
+        self.assertEqual(self.compare(self.own("casebook"), "/no/such/program")[0], 1)
