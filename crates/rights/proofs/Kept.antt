@@ -11,10 +11,13 @@ use Rattle.put.specs.If.{if_then_else_}
 use Rattle.rights.specs.declared.Areas.{Areas}
 use Rattle.rights.specs.declared.Vault.{Vault}
 use Rattle.rights.specs.declared.View.{View}
+use Rattle.rights.specs.declared.Verdict.{Verdict}
+use Rattle.rights.specs.declared.Verdict.the-variants.{Success, Error}
 use Rattle.rights.specs.declared.registers.Written.{Written}
 use Rattle.rights.specs.declared.registers.Written.the-variants as written
 use Rattle.rights.specs.Vault.{viewOf}
-use Rattle.rights.specs.Registers.{isRegister, allows, permits, writtenOf, withRegister, writeOf, vaultAfter, registerRule, endRule, pairRule, possible}
+use Rattle.rights.specs.Registers.{isRegister, allows, permits, writtenOf, withRegister, writtenVerdict, writeOf, registerRule, endRule, pairRule, possible}
+use Rattle.rights.specs.Kept.{kept}
 use Rattle.rights.proofs.Cases.{or-true, not-or, both, join}
 
 -- the rules, one by one
@@ -166,7 +169,7 @@ done-allowed e v address x h = go (isRegister address) (permits v) (allows e (v 
     go true true false h = let z : _≡_ {A = ℕ} 0 1 = cc in absurd (omega arith)
     go true true true h = (refl, refl)
 
-after : (e : ℕ) (v : Vault) (address x : ℕ) (w : Written) → possible e (v .areas) ≡ true → (w ≡ written.Done → allows e (v .areas) address x ≡ true) → possible e (vaultAfter w v address x .areas) ≡ true
+after : (e : ℕ) (v : Vault) (address x : ℕ) (w : Written) → possible e (v .areas) ≡ true → (w ≡ written.Done → allows e (v .areas) address x ≡ true) → possible e ((kept (writtenVerdict w) v (withRegister v address x)) .areas) ≡ true
 after e v address x written.Unknown p h = p
 after e v address x written.NotPermitted p h = p
 after e v address x written.NotAllowed p h = p
@@ -177,3 +180,13 @@ pub stays-possible : (e : ℕ) (v : Vault) (address x : ℕ) → possible e (v .
 unfolding writeOf
 stays-possible e v address x p =
     after e v address x (writtenOf e (viewOf v) address x) p (λ h. done-allowed e (viewOf v) address x h .1)
+
+-- what a write gives, by its parts
+pub write-is : (e : ℕ) (v : Vault) (address x : ℕ) → writeOf e v address x ≡ record { answer = writtenOf e (viewOf v) address x; vault = kept (writtenVerdict (writtenOf e (viewOf v) address x)) v (withRegister v address x) }
+unfolding writeOf
+write-is e v address x = refl
+
+-- what is kept or new, seen through a function
+pub kept-over {ℓ κ} : {A : Type ℓ} {B : Type κ} (f : A → B) (v : Verdict) (old new : A) → f (kept v old new) ≡ kept v (f old) (f new)
+kept-over f Success old new = refl
+kept-over f (Error c) old new = refl

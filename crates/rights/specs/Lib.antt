@@ -1,4 +1,5 @@
 pub mod Vault
+pub mod Kept
 pub mod Passwords
 pub mod Blocks
 pub mod Registers

@@ -10,6 +10,7 @@ use Rattle.rights.specs.declared.Session.the-variants.{None, Configurati
 use Rattle.rights.specs.declared.Keys.{Keys}
 use Rattle.rights.specs.declared.Verdict.{Verdict}
 use Rattle.rights.specs.declared.Verdict.the-variants.{Success, Error}
+use Rattle.rights.specs.Kept.{kept}
 use Rattle.rights.specs.declared.passwords.Presented.{Presented}
 use Rattle.rights.specs.declared.passwords.Presented.the-variants as presented
 use Rattle.rights.specs.declared.passwords.Presentation.{Presentation}
@@ -62,14 +63,6 @@ changedOf s n =
     if ltb 3 n then changed.NumberOver else
     if isOpen s n then changed.Replaced else changed.NotOpen
 
-abbrev pub keysAfter : Changed → Keys → ℕ → ℕ → Keys
-keysAfter changed.NumberOver k n w = k
-keysAfter changed.NotOpen k n w = k
-keysAfter changed.Replaced k n w = withPassword k n w
-
-unfoldable pub changeOf : Keys → ℕ → ℕ → PasswordChange
-changeOf k n w = record { answer = changedOf (k .session) n; keys = keysAfter (changedOf (k .session) n) k n w }
-
 -- the codes of 01 for each case
 abbrev pub presentedVerdict : Presented → Verdict
 presentedVerdict presented.NumberOver = Error 0x10
@@ -80,3 +73,8 @@ abbrev pub changedVerdict : Changed → Verdict
 changedVerdict changed.NumberOver = Error 0x10
 changedVerdict changed.NotOpen = Error 0x0F
 changedVerdict changed.Replaced = Success
+
+unfoldable pub changeOf : Keys → ℕ → ℕ → PasswordChange
+changeOf k n w =
+    let c = changedOf (k .session) n in
+    record { answer = c; keys = kept (changedVerdict c) k (withPassword k n w) }

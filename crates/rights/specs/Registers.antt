@@ -15,6 +15,7 @@ use Rattle.rights.specs.declared.registers.Written.{Written}
 use Rattle.rights.specs.declared.registers.Written.the-variants as written
 use Rattle.rights.specs.declared.registers.RegisterWrite.{RegisterWrite}
 use Rattle.rights.specs.Vault.{viewOf}
+use Rattle.rights.specs.Kept.{kept}
 use Rattle.rights.specs.Passwords.{isOpen}
 
 -- "Read A0h and write A1h take a one-byte register address as in 003", Table 10. "Registers: the seven above and LOCK_CFG. Unknown 10h"
@@ -68,16 +69,6 @@ withRegister v address x =
     if eqb address 0x0A then withAreas v (record { rfa1ss = a .rfa1ss; enda1 = a .enda1; rfa2ss = a .rfa2ss; enda2 = a .enda2; rfa3ss = a .rfa3ss; enda3 = a .enda3; rfa4ss = x }) else
     if eqb address 0x0F then record { areas = a; lock0 = v .lock0; lock1 = v .lock1; lockcfg = eqb x 0x01; keys = v .keys } else v
 
-abbrev pub vaultAfter : Written → Vault → ℕ → ℕ → Vault
-vaultAfter written.Unknown v address x = v
-vaultAfter written.NotPermitted v address x = v
-vaultAfter written.NotAllowed v address x = v
-vaultAfter written.Done v address x = withRegister v address x
-
-unfoldable pub writeOf : ℕ → Vault → ℕ → ℕ → RegisterWrite
-writeOf e v address x =
-    record { answer = writtenOf e (viewOf v) address x; vault = vaultAfter (writtenOf e (viewOf v) address x) v address x }
-
 -- the codes of 01 for each case
 abbrev pub readVerdict : RegisterRead → Verdict
 readVerdict read.Unknown = Error 0x10
@@ -88,6 +79,11 @@ writtenVerdict written.Unknown = Error 0x10
 writtenVerdict written.NotPermitted = Error 0x0F
 writtenVerdict written.NotAllowed = Error 0x13
 writtenVerdict written.Done = Success
+
+unfoldable pub writeOf : ℕ → Vault → ℕ → ℕ → RegisterWrite
+writeOf e v address x =
+    let w = writtenOf e (viewOf v) address x in
+    record { answer = w; vault = kept (writtenVerdict w) v (withRegister v address x) }
 
 -- ---- "Record rules", those of the registers
 
