@@ -30,3 +30,8 @@ both false b e = let z : _≡_ {A = ℕ} 0 1 = cc in absurd (omega arith)
 
 pub join : {a b : Bool} → a ≡ true → b ≡ true → (a && b) ≡ true
 join p q = rw (p, q)
+
+-- a disjunction that fails
+pub neither : (a b : Bool) → (a || b) ≡ false → (a ≡ false) × (b ≡ false)
+neither true b e = let z : _≡_ {A = ℕ} 0 1 = cc in absurd (omega arith)
+neither false b e = (refl, e)

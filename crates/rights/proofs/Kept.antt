@@ -6,7 +6,7 @@ use Prim.Native.Nat.{ℕ}
 use native.Mathlib.Omega.{arith}
 use native.Mathlib.Decide.{ℕ-discrete}
 use lib.Dec.{leb, ltb, eqb}
-use borrow.Author.Tests.{eqb-true, leb-true, ltb-true, eq-eqb, ne-eqb}
+use borrow.Author.Tests.{eqb-true, leb-true, ltb-true, le-leb, eq-eqb, ne-eqb}
 use Rattle.put.specs.If.{if_then_else_}
 use Rattle.rights.specs.declared.Areas.{Areas}
 use Rattle.rights.specs.declared.Vault.{Vault}
@@ -169,17 +169,32 @@ done-allowed e v address x h = go (isRegister address) (permits v) (allows e (v 
     go true true false h = let z : _≡_ {A = ℕ} 0 1 = cc in absurd (omega arith)
     go true true true h = (refl, refl)
 
-after : (e : ℕ) (v : Vault) (address x : ℕ) (w : Written) → possible e (v .areas) ≡ true → (w ≡ written.Done → allows e (v .areas) address x ≡ true) → possible e ((kept (writtenVerdict w) v (withRegister v address x)) .areas) ≡ true
+-- the registers after a write that is done
+pub done-possible : (e : ℕ) (v : Vault) (address x : ℕ) → possible e (v .areas) ≡ true → writtenOf e (viewOf v) address x ≡ written.Done → possible e (withRegister v address x .areas) ≡ true
+done-possible e v address x p h = ruled (keeps e v x (rules p) address (done-allowed e (viewOf v) address x h .1))
+
+after : (e : ℕ) (v : Vault) (address x : ℕ) (w : Written) → possible e (v .areas) ≡ true → (w ≡ written.Done → possible e (withRegister v address x .areas) ≡ true) → possible e ((kept (writtenVerdict w) v (withRegister v address x)) .areas) ≡ true
 after e v address x written.Unknown p h = p
 after e v address x written.NotPermitted p h = p
 after e v address x written.NotAllowed p h = p
-after e v address x written.Done p h = ruled (keeps e v x (rules p) address (h refl))
+after e v address x written.Done p h = h refl
 
 -- the theorem: whatever is written, possible registers stay possible, for any E
 pub stays-possible : (e : ℕ) (v : Vault) (address x : ℕ) → possible e (v .areas) ≡ true → possible e (writeOf e v address x .vault .areas) ≡ true
 unfolding writeOf
 stays-possible e v address x p =
-    after e v address x (writtenOf e (viewOf v) address x) p (λ h. done-allowed e (viewOf v) address x h .1)
+    after e v address x (writtenOf e (viewOf v) address x) p (done-possible e v address x p)
+
+-- a factory tag's registers
+pub all-at-end : (e : ℕ) → possible e (record { rfa1ss = 0; enda1 = e; rfa2ss = 0; enda2 = e; rfa3ss = 0; enda3 = e; rfa4ss = 0 }) ≡ true
+all-at-end e =
+    let own : endRule e e ≡ true = le-leb e e (omega arith) in
+    let pair : pairRule e e e ≡ true = to-last e e e (eq-eqb e e refl) in
+    ruled
+    (record {
+      registers = record { first = refl; second = refl; third = refl; fourth = refl };
+      ends = record { first = own; second = own; pair12 = pair; third = own; pair23 = pair };
+    })
 
 -- what a write gives, by its parts
 pub write-is : (e : ℕ) (v : Vault) (address x : ℕ) → writeOf e v address x ≡ record { answer = writtenOf e (viewOf v) address x; vault = kept (writtenVerdict (writtenOf e (viewOf v) address x)) v (withRegister v address x) }

@@ -16,7 +16,6 @@ use Rattle.rights.specs.declared.passwords.Presented.the-variants.{Numbe
 use Rattle.rights.specs.declared.passwords.Presentation.{Presentation}
 use Rattle.rights.specs.declared.passwords.Changed.{Changed}
 use Rattle.rights.specs.declared.passwords.Changed.the-variants as changed
-use Rattle.rights.specs.declared.passwords.PasswordChange.{PasswordChange}
 use Rattle.rights.specs.Passwords.{sessionOf, isOpen, passwordOf, withSession, withPassword, presentOf, changedOf, changedVerdict, changeOf}
 use Rattle.rights.specs.Kept.{kept}
 use Rattle.rights.proofs.Cases.{if-one}

@@ -1,1 +1,9 @@
 pub mod Starred
+pub mod OnlyOne
+pub mod Sizes
+pub mod Codes
+pub mod Live
+pub mod Acts
+pub mod Sound
+pub mod Alters
+pub mod Calls

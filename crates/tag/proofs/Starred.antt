@@ -26,7 +26,7 @@ use Rattle.tag.specs.Step.{Event, fieldOn, request, frameOf, workOf, ste
 use Rattle.tag.specs.Image.{factory}
 
 -- k bytes, as they are written: the first is the highest of the number
-pub bytes : ℕ → ℕ → List ℕ
+unfoldable pub bytes : ℕ → ℕ → List ℕ
 bytes k n = reverse (bytesOf k n)
 
 -- bytes and the CRC after them; registers, a block and its area; or a record, memory, events, the answers to them and the memory after them
@@ -62,7 +62,7 @@ pub data Hold : ℕ → List Case → Type 0 where
 pub ends : ℕ → ℕ → ℕ → ℕ → Areas
 ends second x y z = record { rfa1ss = 0; enda1 = x; rfa2ss = second; enda2 = y; rfa3ss = 0; enda3 = z; rfa4ss = 0 }
 
-pub ours : ℕ
+unfoldable pub ours : ℕ
 ours = 0xE002230401D6C8F0
 
 -- a UID whose highest four bits are 0, so that slot 0 is its own after a mask of 60 bits

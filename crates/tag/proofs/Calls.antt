@@ -1,0 +1,65 @@
+-- Every host call gives a sound record, with the memory as it leaves it, for a sound one with the memory before it, refused or not: what
+-- began sound is not refused by number 3 while the host lends with each record the memory that goes with it.
+-- Assumes nothing.
+use Prim.Native.Nat.{ℕ, _+_}
+use native.Mathlib.Omega.{arith}
+use mathlib.Core.Path.{_≡_, refl}
+use mathlib.Core.Bool.{true, false, not}
+use mathlib.Core.List.{List}
+use lib.ListN.{length, drop, length-drop}
+use lib.Dec.{ltb}
+use borrow.Author.Tests.{eqb-true, not-false}
+use Rattle.rights.proofs.Cases.{if-one, both}
+use Rattle.record.specs.declared.Tag.{Tag}
+use Rattle.record.specs.declared.Outcome.{Outcome}
+use Rattle.tag.specs.Rules.{blocksOf, sound}
+use Rattle.tag.specs.Step.{Event}
+use Rattle.tag.specs.Image.{headerLength, tagIn, headerRule}
+use Rattle.tag.specs.Host.{isMemory, fitsImage, leastRoom, isImage, EventGiven, eventGiven, EventGives, LoadGiven, loadGiven, LoadGives, SaveGiven, saveGiven, SaveGives}
+use Rattle.tag.proofs.Sound.{stays-sound, loaded-sound}
+
+module _ (t : Tag) where
+  pub event-sound : (e : Event) (m x : List ℕ) {m′ x′ : List ℕ} {r : Outcome} → EventGives t e m x m′ x′ r → sound (blocksOf m) t ≡ true → sound (blocksOf m′) (r .tag) ≡ true
+  unfolding eventGiven
+  event-sound e m x g h = rw (g .memory, g .result) given
+    where
+      After : EventGiven → Type 0
+      After o = sound (blocksOf (o .memory)) (o .result .tag) ≡ true
+
+      given : After (eventGiven t e m x)
+      given =
+          if-one After (not (isMemory m)) (λ q. h) (λ q.
+          if-one After (ltb (length x) leastRoom) (λ q. h) (λ q.
+          if-one After (not (sound (blocksOf m) t)) (λ q. h) (λ q. stays-sound t m e h)))
+
+  pub load-sound : (i m : List ℕ) {m′ : List ℕ} {r : Outcome} → LoadGives t i m m′ r → sound (blocksOf m) t ≡ true → sound (blocksOf m′) (r .tag) ≡ true
+  unfolding loadGiven
+  load-sound i m g h = rw (g .memory, g .result) given
+    where
+      After : LoadGiven → Type 0
+      After o = sound (blocksOf (o .memory)) (o .result .tag) ≡ true
+
+      loaded : not (fitsImage m i) ≡ false → not (headerRule (blocksOf m) i) ≡ false → sound (blocksOf (drop headerLength i)) (tagIn i) ≡ true
+      loaded fits rule =
+          let whole = eqb-true (length i) (headerLength + length m) (both (isMemory m) _ (not-false _ fits) .1) in
+          let part : length (drop headerLength i) ≡ length m = simp length-drop (omega arith) in
+          rw part (loaded-sound (blocksOf m) i (not-false _ rule))
+
+      given : After (loadGiven t i m)
+      given =
+          if-one After (not (isImage i)) (λ q. h) (λ q.
+          if-one After (not (fitsImage m i)) (λ q. h) (λ fits.
+          if-one After (not (headerRule (blocksOf m) i)) (λ q. h) (λ rule. loaded fits rule)))
+
+  pub save-keeps : (m i : List ℕ) {i′ : List ℕ} {r : Outcome} → SaveGives t m i i′ r → r .tag ≡ t
+  unfolding saveGiven
+  save-keeps m i g = rw (g .result) given
+    where
+      After : SaveGiven → Type 0
+      After o = o .result .tag ≡ t
+
+      given : After (saveGiven t m i)
+      given =
+          if-one After (not (isImage i)) (λ q. refl) (λ q.
+          if-one After (not (fitsImage m i)) (λ q. refl) (λ q.
+          if-one After (not (sound (blocksOf m) t)) (λ q. refl) (λ q. refl)))
