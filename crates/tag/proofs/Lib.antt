@@ -7,3 +7,4 @@ pub mod Acts
 pub mod Sound
 pub mod Alters
 pub mod Calls
+pub mod Listing
