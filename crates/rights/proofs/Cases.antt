@@ -31,7 +31,12 @@ both false b e = let z : _≡_ {A = ℕ} 0 1 = cc in absurd (omega arith)
 pub join : {a b : Bool} → a ≡ true → b ≡ true → (a && b) ≡ true
 join p q = rw (p, q)
 
--- a disjunction that fails
+-- a disjunction, by its two cases
+pub or-one {κ} : {P : Type κ} (a b : Bool) → (a || b) ≡ true → (a ≡ true → P) → (b ≡ true → P) → P
+or-one true b e p q = p refl
+or-one false b e p q = q e
+
+-- and one that fails
 pub neither : (a b : Bool) → (a || b) ≡ false → (a ≡ false) × (b ≡ false)
 neither true b e = let z : _≡_ {A = ℕ} 0 1 = cc in absurd (omega arith)
 neither false b e = (refl, e)

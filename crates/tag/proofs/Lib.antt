@@ -8,3 +8,4 @@ pub mod Sound
 pub mod Alters
 pub mod Calls
 pub mod Listing
+pub mod Lengths
