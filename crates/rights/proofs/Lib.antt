@@ -4,3 +4,4 @@ pub mod Borders
 pub mod Sessions
 pub mod Kept
 pub mod Examples
+pub mod Ranges

@@ -9,3 +9,5 @@ pub mod Alters
 pub mod Calls
 pub mod Listing
 pub mod Lengths
+pub mod Ranges
+pub mod Bytes
