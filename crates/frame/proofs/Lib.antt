@@ -1,0 +1,4 @@
+pub mod Bits
+pub mod Bytes
+pub mod Within
+pub mod Requested

@@ -1,0 +1,17 @@
+-- `frame::checks::check10` meets its contract.
+-- Assumes nothing.
+use Rattle.tag.specs.Frame.{check10}
+use Rattle.put.proofs.Proves.{proves}
+use Rattle.frame.proofs.checks.check10.Statement.{statement}
+use Rattle.frame.proofs.checks.check10.Tie as tie
+
+pub check10-spec : {M : Type 1} → statement M
+unfolding check10
+check10-spec =
+    tie.close
+    (tie.spec
+    (λ c κs. search proves)
+    (λ c κs. search proves)
+    (λ c κs. search proves)
+    (λ c κs. search proves)
+    (λ c. cc))

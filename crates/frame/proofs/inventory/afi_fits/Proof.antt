@@ -1,0 +1,15 @@
+-- `frame::inventory::afi_fits` meets its contract.
+-- Assumes nothing.
+use Rattle.tag.specs.Inventory.{afiMatches, afiFits}
+use Rattle.put.proofs.Proves.{proves}
+use Rattle.frame.proofs.inventory.afi_fits.Statement.{statement}
+use Rattle.frame.proofs.inventory.afi_fits.Tie as tie
+
+pub afi-fits-spec : {M : Type 1} → statement M
+unfolding afiMatches afiFits
+afi-fits-spec =
+    tie.close
+    (tie.spec
+    (λ c κs. search proves)
+    (λ c κs. search proves)
+    (λ c. cc))
