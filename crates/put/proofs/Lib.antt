@@ -4,3 +4,4 @@ pub mod Lists
 pub mod Written
 pub mod Numbers
 pub mod Only
+pub mod RoundTrips

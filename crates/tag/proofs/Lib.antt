@@ -1,1 +1,5 @@
 pub mod Starred
+pub mod Locks
+pub mod Off
+pub mod Headers
+pub mod Images
