@@ -70,6 +70,10 @@ pub record Lasting (t : Tag) : Type 0 where
   pub four : length (t .vault .keys .passwords) ≡ 4
   pub passwords : (n : ℕ) → getD (t .vault .keys .passwords) n 0 < 2 ^ 64
 
+pub header-length : (size : ℕ) (t : Tag) → length (headerOf size t) ≡ 64
+unfolding headerOf bytesOf
+header-length size t = refl
+
 module _ (t : Tag) (m : List ℕ) where
   pub tag-again : Lasting t → Off (t .front) (t .vault .keys .session) → tagIn (imageOf t m) ≡ t
   unfolding tagIn imageOf headerOf numberAt bytesOf placesAt
@@ -87,17 +91,13 @@ module _ (t : Tag) (m : List ℕ) where
       let locks : Bits (getD i 11 0) (v .lock0) (v .lock1) (f .lockafi) (f .lockdsfid) (v .lockcfg) = byte-bits _ _ _ _ _ in
       rw (u, p, q, r, s, four, locks .bit0, locks .bit1, locks .bit2, locks .bit3, locks .bit4) (is-off t o)
 
-  header-length : length (headerOf (length m) t) ≡ 64
-  unfolding headerOf bytesOf
-  header-length = refl
-
   pub image-length : length (imageOf t m) ≡ 64 + length m
   unfolding imageOf
   image-length = length-append (headerOf (length m) t) m ∙ rw header-length
 
   pub memory-again : drop 64 (imageOf t m) ≡ m
   unfolding imageOf
-  memory-again = drop-at (headerOf (length m) t) m 64 header-length
+  memory-again = drop-at (headerOf (length m) t) m 64 (header-length (length m) t)
 
   -- possible registers are all that the header rules ask of a record
   pub header-right : (blocks : ℕ) → possible (lastEnd blocks) (t .vault .areas) ≡ true → headerRule blocks (imageOf t m) ≡ true
