@@ -15,4 +15,4 @@ read-areas-spec =
     (λ c κs. search needs)
     (λ c κs. search needs)
     (λ c κs. search needs)
-    (λ c. cc))
+    (λ c. rw (c .before .before .before .before .before .before .byte-at .ensures, c .before .before .before .before .before .byte-at2 .ensures, c .before .before .before .before .byte-at3 .ensures, c .before .before .before .byte-at4 .ensures, c .before .before .byte-at5 .ensures, c .before .byte-at6 .ensures, c .byte-at7 .ensures)))

@@ -14,4 +14,4 @@ read-front-spec =
     (λ c κs. search needs)
     (λ c κs. search needs)
     (λ c κs. search needs)
-    (λ c. cc))
+    (λ c. rw (c .before .before .before .byte-at .ensures, c .before .before .number8 .ensures, c .before .byte-at2 .ensures, c .byte-at3 .ensures)))

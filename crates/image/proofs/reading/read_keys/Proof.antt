@@ -14,4 +14,4 @@ read-keys-spec =
     (λ c κs. search needs)
     (λ c κs. search needs)
     (λ c κs. search needs)
-    (λ c. cc))
+    (λ c. rw (c .before .before .before .number8 .ensures, c .before .before .number82 .ensures, c .before .number83 .ensures, c .number84 .ensures)))
