@@ -18,12 +18,14 @@ use Rattle.tag.specs.Table.{entryOf, lengthOf}
 use Rattle.tag.specs.Frame.{flagBit, addressFlag, optionFlag, codeOf, endOf, custom, afterCode, fieldsAt, fieldsFrom, unlisted, selectOfAnother, check2, check3, check4, check5, check6, check7, check8, check9, check10, heardOf}
 use Rattle.frame.proofs.Within.{either, long-enough, within}
 
+-- a frame f that is heard as a request of a row e of the table, with Option_flag or without, whose fields begin at start: they lie within the
+-- frame and have the row's length, and the row is that of the frame's code, which is listed
 pub record Requested (f : List ℕ) (e : Entry) (o : Bool) (start : ℕ) : Type 0 where
   pub entry : e ≡ entryOf (codeOf f)
   pub option : o ≡ optionFlag f
   pub long : 4 ≤ length f
   pub least : 2 ≤ start
-  pub last : start ≤ endOf f
+  pub most : start ≤ endOf f
   pub listed : unlisted (e .command) ≡ false
   pub sized : length (fieldsFrom start f) ≡ lengthOf e (fieldsFrom start f)
 
@@ -80,7 +82,7 @@ module _ (t : Front) (f : List ℕ) where
       let long = long-enough f (two .0) in
       let w = within t f long (five .0) (six .0) in
       same-request f (ten .1)
-      (record { entry = refl; option = refl; long = long; least = least-place f; last = w; listed = seven .0; sized = sized-by f w (eight .0) })
+      (record { entry = refl; option = refl; long = long; least = least-place f; most = w; listed = seven .0; sized = sized-by f w (eight .0) })
 
   pub inventory-long : heardOf t f ≡ Inventory → 4 ≤ length f
   unfolding heardOf

@@ -6,7 +6,7 @@ use super::places::fields_at;
 use super::places::flag_bit;
 use super::places::is_custom;
 use super::table::entry_of;
-use super::table::fields_length;
+use super::table::right_length;
 use crc::crc;
 use put::byte_at;
 use put::number2;
@@ -147,7 +147,7 @@ pub fn check8(frame: &[u8]) -> bool
     let e = entry_of(code_of(frame));
     let start = fields_at(frame);
     let end = end_of(frame);
-    !(end - start == fields_length(e, &frame[start..end]))
+    !(end - start == right_length(e, &frame[start..end]))
 }
 
 fn addressed_only(c: Command) -> bool

@@ -1,4 +1,4 @@
-// "Inventory": its fields, and whether the tag answers.
+// "Inventory": its fields, and whether the tag hears it.
 use super::checks::is_quiet;
 use super::places::end_of;
 use super::places::flag_bit;
@@ -62,6 +62,7 @@ fn mask_at(frame: &[u8]) -> u8
     0
 }
 
+// The mask length, 0 where it is missing.
 pub fn mask_length(frame: &[u8]) -> u8
     ensures { λ r. ⌜ r ≡ maskLength (now (frame .entry)) ⌝ }
 {

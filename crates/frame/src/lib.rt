@@ -1,5 +1,5 @@
 // From a frame's bytes to what is heard: "Checks, first match wins", checks 2 to 10 of document 01, one function a check, asked in 01's
-// order. Any bytes are taken, none too.
+// order. Any bytes are taken, an empty frame too.
 mod checks; // checks.rt: each check of a frame
 pub mod inventory; // inventory.rt: the fields of Inventory, and whether the tag hears it
 mod places; // places.rt: where flags, code, UID, fields and CRC stand
@@ -68,6 +68,7 @@ fn meant(front: Front, frame: &[u8]) -> Heard
     asked(frame)
 }
 
+// What is heard of a frame by a tag in the field.
 pub fn hear(front: Front, frame: &[u8]) -> Heard
     ensures { λ r. ⌜ r ≡ heardOf front (now (frame .entry)) ⌝ }
 {

@@ -12,6 +12,7 @@ pub fn flag_bit(frame: &[u8], k: u8) -> bool
     (byte_at(frame, 0) >> (k - 1)) % 2 == 1
 }
 
+// The command code, 0 where it is missing.
 pub fn code_of(frame: &[u8]) -> u8
     ensures { λ r. ⌜ r ≡ codeOf (now (frame .entry)) ⌝ }
 {
@@ -45,6 +46,7 @@ pub fn after_code(frame: &[u8]) -> u8
     2
 }
 
+// Where the fields begin.
 pub fn fields_at(frame: &[u8]) -> usize
     ensures { λ r. ⌜ r ≡ fieldsAt (now (frame .entry)) ⌝ }
 {

@@ -60,6 +60,7 @@ fn wide_counted_row(command: Command, length: Length, option: OptionRule) -> Ent
     }
 }
 
+// The decision over the command byte: work, length rule and option rule of each listed code.
 pub fn entry_of(code: u8) -> Entry
     ensures { λ r. ⌜ r ≡ entryOf code ⌝ }
 {
@@ -91,6 +92,7 @@ pub fn entry_of(code: u8) -> Entry
     }
 }
 
+// "first block, then count less one, same width"
 pub fn first_block(e: Entry, fields: &[u8]) -> u16
     ensures { λ r. ⌜ r ≡ firstOf e (now (fields .entry)) ⌝ }
 {
@@ -100,7 +102,7 @@ pub fn first_block(e: Entry, fields: &[u8]) -> u16
     byte_at(fields, 0) as u16
 }
 
-// The count less one.
+// The count less one, 0 where the command has none.
 pub fn more_blocks(e: Entry, fields: &[u8]) -> u16
     ensures { λ r. ⌜ r ≡ moreOf e (now (fields .entry)) ⌝ }
 {
@@ -143,7 +145,7 @@ pub fn limit(e: Entry, blocks: usize) -> usize
 }
 
 // The length that the fields must have.
-pub fn fields_length(e: Entry, fields: &[u8]) -> usize
+pub fn right_length(e: Entry, fields: &[u8]) -> usize
     ensures { λ r. ⌜ r ≡ lengthOf e (now (fields .entry)) ⌝ }
 {
     let length = e.length;

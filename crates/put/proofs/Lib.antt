@@ -5,3 +5,4 @@ pub mod Written
 pub mod Numbers
 pub mod Only
 pub mod Bytes
+pub mod RoundTrips

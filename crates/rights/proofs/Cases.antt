@@ -19,6 +19,11 @@ pub if-one {ℓ κ} : {A : Type ℓ} (P : A → Type κ) (c : Bool) {x y : A} �
 if-one P true p q = p refl
 if-one P false p q = q refl
 
+-- and one test in two of them
+pub if-both {ℓ κ} : {A : Type ℓ} (R : A → A → Type κ) (c : Bool) {x y x′ y′ : A} → R x x′ → R y y′ → R (if c then x else y) (if c then x′ else y′)
+if-both R true p q = p
+if-both R false p q = q
+
 pub else-false : (t : Bool) {o : Bool} → o ≡ false → (if t then false else o) ≡ false
 else-false true e = refl
 else-false false e = e

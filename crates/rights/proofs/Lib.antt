@@ -5,3 +5,4 @@ pub mod Sessions
 pub mod Kept
 pub mod Examples
 pub mod Ranges
+pub mod Hidden

@@ -11,3 +11,13 @@ pub mod Listing
 pub mod Lengths
 pub mod Ranges
 pub mod Bytes
+pub mod Locks
+pub mod Off
+pub mod Headers
+pub mod Images
+pub mod Alike
+pub mod Harmless
+pub mod Unchanged
+pub mod Unlearned
+pub mod Secret
+pub mod SecretExamples

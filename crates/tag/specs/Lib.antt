@@ -8,3 +8,4 @@ pub mod Commands
 pub mod Step
 pub mod Image
 pub mod Host
+pub mod Secrecy

@@ -1,8 +1,6 @@
 -- `blocks::write_blocks` meets its contract: one copy is what the units do, one after the other.
 -- Assumes nothing.
 use lib.ListN.{length-take, length-drop}
-use lib.Seq.{length-take-le}
-use mathlib.Core.Path.{sym}
 use Rattle.blocks.proofs.Units.{units-put}
 use Rattle.put.proofs.Proves.{proves}
 use native.Mathlib.Omega.{arith}
@@ -16,7 +14,7 @@ write-blocks-spec =
     (λ c. search proves)
     (λ c. search proves)
     (λ c. search proves)
-    (λ c. sym (length-take-le _ _ (c .before .before .before .pre .1)))
+    (λ c. simp length-take (omega arith))
     (λ c. search proves)
     (λ c. search proves)
     (λ c. search proves)

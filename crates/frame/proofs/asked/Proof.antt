@@ -1,4 +1,4 @@
--- `frame::asked` meets its contract.
+-- `frame::asked` meets its contract: the checks that passed and the one that did not say which case of `askedOf` holds.
 -- Assumes nothing.
 use Rattle.frame.specs.Parts.{askedOf}
 use Rattle.put.proofs.Proves.{proves}
@@ -13,13 +13,27 @@ asked-spec =
     (λ c κs. search proves)
     (λ c. rw (← c .before .check7 .ensures, c .if1 .taken))
     (λ c κs. c .before .before .before .pre)
-    (λ c. rw (← c .before .before .before .check7 .ensures, c .before .before .if1 .left, ← c .before .check8 .ensures, c .if2 .taken))
+    (λ c.
+    let seven = c .before .before in
+    rw (← seven .before .check7 .ensures, seven .if1 .left, ← c .before .check8 .ensures, c .if2 .taken))
     (λ c κs. search proves)
-    (λ c. rw (← c .before .before .before .before .before .check7 .ensures, c .before .before .before .before .if1 .left, ← c .before .before .before .check8 .ensures, c .before .before .if2 .left, ← c .before .check9 .ensures, c .if3 .taken))
+    (λ c.
+    let eight = c .before .before in
+    let seven = eight .before .before in
+    rw (← seven .before .check7 .ensures, seven .if1 .left, ← eight .before .check8 .ensures, eight .if2 .left, ← c .before .check9 .ensures, c .if3 .taken))
     (λ c κs. search proves)
-    (λ c. rw (← c .before .before .before .before .before .before .before .check7 .ensures, c .before .before .before .before .before .before .if1 .left, ← c .before .before .before .before .before .check8 .ensures, c .before .before .before .before .if2 .left, ← c .before .before .before .check9 .ensures, c .before .before .if3 .left, ← c .before .check10 .ensures, c .if4 .taken))
+    (λ c.
+    let nine = c .before .before in
+    let eight = nine .before .before in
+    let seven = eight .before .before in
+    rw (← seven .before .check7 .ensures, seven .if1 .left, ← eight .before .check8 .ensures, eight .if2 .left, ← nine .before .check9 .ensures, nine .if3 .left, ← c .before .check10 .ensures, c .if4 .taken))
     (λ c κs. search proves)
     (λ c κs. search proves)
     (λ c κs. search proves)
     (λ c κs. search proves)
-    (λ c. rw (← c .before .before .before .before .before .before .before .before .before .before .before .check7 .ensures, c .before .before .before .before .before .before .before .before .before .before .if1 .left, ← c .before .before .before .before .before .before .before .before .before .check8 .ensures, c .before .before .before .before .before .before .before .before .if2 .left, ← c .before .before .before .before .before .before .before .check9 .ensures, c .before .before .before .before .before .before .if3 .left, ← c .before .before .before .before .before .check10 .ensures, c .before .before .before .before .if4 .left) (cc)))
+    (λ c.
+    let ten = c .before .before .before .before in
+    let nine = ten .before .before in
+    let eight = nine .before .before in
+    let seven = eight .before .before in
+    rw (← seven .before .check7 .ensures, seven .if1 .left, ← eight .before .check8 .ensures, eight .if2 .left, ← nine .before .check9 .ensures, nine .if3 .left, ← ten .before .check10 .ensures, ten .if4 .left, c .before .before .entry-of .ensures, c .before .before .before .code-of .ensures, c .before .flag-bit .ensures, c .fields-at .ensures)))

@@ -16,7 +16,16 @@ meant-spec =
     (λ c. rw (← c .before .check5 .ensures, c .if1 .taken))
     (λ c κs. search proves)
     (λ c κs. search proves)
-    (λ c. rw (← c .before .before .before .before .before .check5 .ensures, c .before .before .before .before .if1 .left, ← c .before .before .before .check6 .ensures, c .before .before .if2 .taken, ← c .before .select-of-another .ensures, c .if3 .taken))
-    (λ c. rw (← c .before .before .before .before .before .check5 .ensures, c .before .before .before .before .if1 .left, ← c .before .before .before .check6 .ensures, c .before .before .if2 .taken, ← c .before .select-of-another .ensures, c .if3 .left))
-    (λ c κs. within _ _ (c .before .before .before .before .before .pre) (sym (c .before .before .before .check5 .ensures) ∙ c .before .before .if1 .left) (sym (c .before .check6 .ensures) ∙ c .if2 .left))
-    (λ c. rw (← c .before .before .before .before .check5 .ensures, c .before .before .before .if1 .left, ← c .before .before .check6 .ensures, c .before .if2 .left) (c .asked .ensures)))
+    (λ c.
+    let six = c .before .before in
+    let five = six .before .before in
+    rw (← five .before .check5 .ensures, five .if1 .left, ← six .before .check6 .ensures, six .if2 .taken, ← c .before .select-of-another .ensures, c .if3 .taken))
+    (λ c.
+    let six = c .before .before in
+    let five = six .before .before in
+    rw (← five .before .check5 .ensures, five .if1 .left, ← six .before .check6 .ensures, six .if2 .taken, ← c .before .select-of-another .ensures, c .if3 .left))
+    (λ c κs. let five = c .before .before in within _ _ (five .before .before .before .pre) (sym (five .before .check5 .ensures) ∙ five .if1 .left) (sym (c .before .check6 .ensures) ∙ c .if2 .left))
+    (λ c.
+    let six = c .before in
+    let five = six .before .before in
+    rw (← five .before .check5 .ensures, five .if1 .left, ← six .before .check6 .ensures, six .if2 .left) (c .asked .ensures)))

@@ -14,4 +14,4 @@ check10-spec =
     (λ c κs. search proves)
     (λ c κs. search proves)
     (λ c κs. search proves)
-    (λ c. cc))
+    (λ c. rw (c .before .flag-bit .ensures, c .takes-none .ensures, c .before .before .entry-of .ensures, c .before .before .before .code-of .ensures)))

@@ -14,7 +14,7 @@ unfolding check2
 check2-spec =
     tie.close
     (tie.spec
-    (λ c. rw (lt-ltb _ _ (c .if1 .taken)))
+    (λ c. rw (lt-ltb _ 4 (c .if1 .taken)))
     (λ c κs. search proves)
     (λ c. sym (length-take-le _ _ (search proves)))
     (λ c κs. search proves)
@@ -22,4 +22,4 @@ check2-spec =
     (λ c. search proves)
     (λ c. search proves)
     (λ c κs. search proves)
-    (λ c. rw (le-ltb _ _ (c .before .before .before .before .before .if1 .left), ← c .before .before .before .before .end-of .ensures, ← tail) (cc)))
+    (λ c. rw (le-ltb _ 4 (c .before .before .before .before .before .if1 .left), c .before .before .crc .ensures, c .number2 .ensures, tail, c .before .before .before .before .end-of .ensures)))

@@ -14,4 +14,4 @@ check5-spec =
     (λ c κs. search proves)
     (λ c κs. search proves)
     (λ c κs. search proves)
-    (λ c. cc))
+    (λ c. rw (c .before .before .is-custom .ensures, c .before .before .before .code-of .ensures, c .before .end-of .ensures, c .byte-at .ensures)))

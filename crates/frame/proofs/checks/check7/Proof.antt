@@ -13,4 +13,4 @@ check7-spec =
     (λ c κs. search proves)
     (λ c κs. search proves)
     (λ c κs. search proves)
-    (λ c. cc))
+    (λ c. rw (c .is-unlisted .ensures, c .before .entry-of .ensures, c .before .before .code-of .ensures)))

@@ -19,4 +19,4 @@ check8-spec =
     (λ c. search proves)
     (λ c. search proves)
     (λ c κs. search proves)
-    (λ c. cc))
+    (λ c. rw (c .right-length .ensures, c .before .before .before .before .entry-of .ensures, c .before .before .before .before .before .code-of .ensures, c .before .before .before .fields-at .ensures, c .before .before .end-of .ensures)))

@@ -14,4 +14,4 @@ check9-spec =
     (λ c κs. search proves)
     (λ c κs. search proves)
     (λ c κs. search proves)
-    (λ c. cc))
+    (λ c. rw (c .before .addressed-only .ensures, c .before .before .entry-of .ensures, c .before .before .before .code-of .ensures, c .flag-bit .ensures)))

@@ -15,4 +15,4 @@ other-uid-spec =
     (λ c κs. search proves)
     (λ c κs. search proves)
     (λ c κs. search proves)
-    (λ c. rw (number-here, ← c .before .before .before .before .end-of .ensures, ← c .before .before .before .fields-at .ensures, ← c .before .before .after-code .ensures, ← c .before .number8 .ensures)))
+    (λ c. rw (number-here, c .before .before .before .before .end-of .ensures, c .before .before .before .fields-at .ensures, c .before .number8 .ensures, c .before .before .after-code .ensures)))

@@ -16,4 +16,4 @@ select-of-another-spec =
     (λ c κs. search proves)
     (λ c κs. search proves)
     (λ c κs. search proves)
-    (λ c. cc))
+    (λ c. rw (c .before .before .before .before .before .code-of .ensures, c .before .before .before .before .end-of .ensures, c .before .before .before .flag-bit .ensures, c .before .before .flag-bit2 .ensures, c .before .flag-bit3 .ensures, c .is-selected .ensures)))

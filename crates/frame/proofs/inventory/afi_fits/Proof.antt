@@ -12,4 +12,4 @@ afi-fits-spec =
     (tie.spec
     (λ c κs. search proves)
     (λ c κs. search proves)
-    (λ c. cc))
+    (λ c. rw (c .before .before .field .ensures, c .before .flag-bit .ensures)))

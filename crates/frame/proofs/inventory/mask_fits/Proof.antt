@@ -18,4 +18,4 @@ mask-fits-spec =
     (λ c κs. search proves)
     (λ c κs. search proves)
     (λ c κs. search proves)
-    (λ c. cc))
+    (λ c. rw (c .before .low-bits .ensures, c .low-bits2 .ensures, c .before .before .before .before .mask-length .ensures, c .before .before .field8 .ensures, c .before .before .before .mask-at .ensures)))

@@ -10,4 +10,4 @@ mask-length-spec =
     (tie.spec
     (λ c κs. search proves)
     (λ c κs. search proves)
-    (λ c. cc))
+    (λ c. rw (c .field .ensures, c .before .mask-at .ensures)))

@@ -12,5 +12,5 @@ mask-too-long-spec =
     (tie.spec
     (λ c κs. search proves)
     (λ c κs. search proves)
-    (λ c. rw (← c .before .one-slot .ensures, c .if1 .taken) (cc))
-    (λ c. rw (← c .before .one-slot .ensures, c .if1 .left) (cc)))
+    (λ c. rw (← c .before .one-slot .ensures, c .if1 .taken, c .before .before .mask-length .ensures))
+    (λ c. rw (← c .before .one-slot .ensures, c .if1 .left, c .before .before .mask-length .ensures)))

@@ -12,4 +12,4 @@ own-slot-spec =
     (tie.spec
     (λ c κs. search proves)
     (λ c. search proves)
-    (λ c. cc))
+    (λ c. rw (c .high-bits .ensures)))

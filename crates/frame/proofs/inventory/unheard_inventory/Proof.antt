@@ -15,4 +15,4 @@ unheard-inventory-spec =
     (λ c κs. search proves)
     (λ c κs. search proves)
     (λ c κs. search proves)
-    (λ c. cc))
+    (λ c. rw (c .before .before .before .before .mask-too-long .ensures, c .before .before .before .wrong-length .ensures, c .is-quiet .ensures, c .before .before .afi-fits .ensures, c .before .mask-fits .ensures)))

@@ -18,4 +18,4 @@ wrong-length-spec =
     (λ c. search proves)
     (λ c. search proves)
     (λ c. search proves)
-    (λ c. cc))
+    (λ c. rw (c .fields-length .ensures, c .before .before .mask-at .ensures, c .before .mask-length .ensures)))

@@ -11,4 +11,4 @@ flag-bit-spec =
     (λ c κs. search proves)
     (λ c. search proves)
     (λ c. search proves)
-    (λ c. cc))
+    (λ c. rw (c .byte-at .ensures)))

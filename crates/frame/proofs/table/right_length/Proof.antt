@@ -1,13 +1,13 @@
--- `frame::table::fields_length` meets its contract.
+-- `frame::table::right_length` meets its contract.
 -- Assumes nothing.
 use Rattle.tag.specs.Table.{lengthOf}
 use Rattle.put.proofs.Proves.{proves}
-use Rattle.frame.proofs.table.fields_length.Statement.{statement}
-use Rattle.frame.proofs.table.fields_length.Tie as tie
+use Rattle.frame.proofs.table.right_length.Statement.{statement}
+use Rattle.frame.proofs.table.right_length.Tie as tie
 
-pub fields-length-spec : {M : Type 1} → statement M
+pub right-length-spec : {M : Type 1} → statement M
 unfolding lengthOf
-fields-length-spec =
+right-length-spec =
     tie.close
     (tie.spec
     (λ c. search proves)

@@ -1,0 +1,63 @@
+// The rules of an image's header.
+use super::reading::read_areas;
+use put::byte_at;
+use rights::registers::possible_areas;
+ghost use mathlib.Core.Path.{_≡_};
+ghost use Prim.Native.Nat.{_+_, _-_, _*_};
+ghost use Rattle.tag.specs.Image.{markOf, markRule, lockRule, reservedRule, headerRule};
+
+// "Byte 0: 1 for 16 Kbit, 2 for 64 Kbit", of a memory of so many bytes
+pub fn mark(size: usize) -> u8
+    ensures { λ r. ⌜ r ≡ markOf size ⌝ }
+{
+    if size == 2048 {
+        return 1;
+    }
+    2
+}
+
+// How many bytes an image has after its header.
+fn memory_size(length: usize) -> usize
+    ensures { λ r. ⌜ r ≡ length - 64 ⌝ }
+{
+    if length < 64 {
+        return 0;
+    }
+    length - 64
+}
+
+// 5: ".. or byte 0 does not fit the image's length"
+fn mark_right(image: &[u8]) -> bool
+    ensures { λ r. ⌜ r ≡ markRule (now (image .entry)) ⌝ }
+{
+    byte_at(image, 0) == mark(memory_size(image.len()))
+}
+
+// "11 locks (.. others 0)"
+fn locks_right(image: &[u8]) -> bool
+    ensures { λ r. ⌜ r ≡ lockRule (now (image .entry)) ⌝ }
+{
+    byte_at(image, 11) <= 0x1F
+}
+
+// "51 to 63 zero"
+fn reserved_right(image: &[u8]) -> bool
+    ensures { λ r. ⌜ r ≡ reservedRule (now (image .entry)) ⌝ }
+{
+    let mut i: usize = 51;
+    while i < 64 {
+        if byte_at(image, i) != 0 {
+            return false;
+        }
+        i += 1;
+    }
+    true
+}
+
+// All rules of the header, for a tag whose last end is e: it has 8 × (e + 1) blocks.
+pub fn header_right(image: &[u8], e: u8) -> bool
+    ensures { λ r. ⌜ r ≡ headerRule (8 * (e + 1)) (now (image .entry)) ⌝ }
+{
+    (mark_right(image) & locks_right(image))
+        & (possible_areas(e, read_areas(image)) & reserved_right(image))
+}

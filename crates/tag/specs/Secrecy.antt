@@ -1,0 +1,152 @@
+-- Demand 3: "Secrecy: two tags alike except in one password (1 to 3) and the bytes that only it makes readable give the same bytes and
+-- silences to any events that do not present that password or the configuration password; and those passwords and bytes stay."
+-- Stated for a set of chosen passwords; the demand is the set of 1 alone, of 2 alone and of 3 alone. A tag is its record, t or u, with its
+-- memory, m or o.
+-- Assumes nothing.
+use Prim.Native.Nat.{ℕ, _/_}
+use mathlib.Core.Path.{_≡_}
+use mathlib.Core.Bool.{Bool, true, false, not, _&&_, _||_}
+use mathlib.Core.List.{List, [], _∷_}
+use mathlib.Core.Option.{Option, none, some}
+use lib.ListN.{length, getD}
+use lib.Dec.{eqb}
+use Rattle.rights.specs.declared.Areas.{Areas}
+use Rattle.rights.specs.declared.Keys.{Keys}
+use Rattle.rights.specs.declared.Session.{Session}
+use Rattle.rights.specs.declared.Vault.{Vault}
+use Rattle.rights.specs.Vault.{viewOf}
+use Rattle.rights.specs.Passwords.{isOpen, passwordOf}
+use Rattle.rights.specs.Blocks.{hiddenBy}
+use Rattle.record.specs.declared.Tag.{Tag}
+use Rattle.record.specs.declared.Refusal.the-variants as refusal
+use Rattle.record.specs.declared.Outcome.{Outcome}
+use Rattle.tag.specs.Rules.{blocksOf}
+use Rattle.tag.specs.Work.{Act, says, lists, presents, writes, closes}
+use Rattle.tag.specs.Step.{Event, workOf, step, run}
+use Rattle.tag.specs.Host.{EventGives}
+
+-- ---- "the bytes that only it makes readable"
+
+-- byte i of the memory, which is in block i / 4. `hiddenBy`, of rights, says of a block that it is in Areas 2 to 4, that its register has
+-- protection 10 or 11, and that the register's password bits name a chosen password
+abbrev pub hidden : (ℕ → Bool) → Areas → ℕ → Bool
+hidden chosen a i = hiddenBy chosen a (i / 4)
+
+-- ---- "two tags alike except in one password and the bytes that only it makes readable"
+
+-- two lists as long as each other, which differ at most where `apart` is true
+pub record SameBut (apart : ℕ → Bool) (xs ys : List ℕ) : Type 0 where
+  pub size : length xs ≡ length ys
+  pub at : (i : ℕ) → apart i ≡ false → getD xs i 0 ≡ getD ys i 0
+
+-- `viewOf`, of rights, is all of a vault but the passwords: registers, locks and the open session
+pub record Alike (chosen : ℕ → Bool) (t u : Tag) (m o : List ℕ) : Type 0 where
+  pub front : t .front ≡ u .front
+  pub view : viewOf (t .vault) ≡ viewOf (u .vault)
+  pub passwords : SameBut chosen (t .vault .keys .passwords) (u .vault .keys .passwords)
+  pub memory : SameBut (hidden chosen (t .vault .areas)) m o
+
+-- ---- "events that do not present that password or the configuration password"
+
+-- the passwords that guard: the chosen ones, and number 0, the configuration password
+abbrev pub guards : (ℕ → Bool) → ℕ → Bool
+guards chosen n = chosen n || eqb n 0
+
+-- no session of these is open
+pub record Shut (chosen : ℕ → Bool) (s : Session) : Type 0 where
+  pub closed : (n : ℕ) → guards chosen n ≡ true → isOpen s n ≡ false
+
+-- what is presented: a value, as the password of a number
+pub record Claim : Type 0 where
+  pub number : ℕ
+  pub value : ℕ
+
+abbrev pub claimOf : Act → Option Claim
+claimOf (says a) = none
+claimOf (lists limit first count status) = none
+claimOf (presents n w) = some (record { number = n; value = w })
+claimOf (writes us) = none
+claimOf closes = none
+
+-- "presented means in a frame that passes all checks": an event presents to a tag what the tag's step on that event goes by
+unfoldable pub presented : Tag → List ℕ → Event → Option Claim
+presented t m e = claimOf (workOf (t .front) (viewOf (t .vault)) (blocksOf m) e .act)
+
+-- what is presented is the tag's password of that number, and one of those that guard
+abbrev pub opens : (ℕ → Bool) → Keys → Option Claim → Bool
+opens chosen k none = false
+opens chosen k (some c) = guards chosen (c .number) && eqb (passwordOf k (c .number)) (c .value)
+
+-- no event of a list presents such a password, along the tag's own run: each event to the tag as it then is, which by `Kept` has the
+-- passwords of its start. A wrong value, another number, or a frame that the tag ignores may come
+unfoldable pub unopened : (ℕ → Bool) → Tag → List ℕ → List Event → Bool
+unopened chosen t m [] = true
+unopened chosen t m (e ∷ es) =
+    let s = step t m e in
+    not (opens chosen (t .vault .keys) (presented t m e)) && unopened chosen (s .tag) (s .memory) es
+
+-- ---- "and those passwords and bytes stay", of one tag: from the vault v and memory m to v′ and m′
+
+-- the registers stay too, so that the hidden bytes are the same ones; and the sessions are still shut
+pub record Kept (chosen : ℕ → Bool) (v : Vault) (m : List ℕ) (v′ : Vault) (m′ : List ℕ) : Type 0 where
+  pub passwords : (n : ℕ) → guards chosen n ≡ true → passwordOf (v′ .keys) n ≡ passwordOf (v .keys) n
+  pub memory : SameBut (λ i. not (hidden chosen (v .areas) i)) m′ m
+  pub areas : v′ .areas ≡ v .areas
+  pub shut : Shut chosen (v′ .keys .session)
+
+abbrev pub Unchanged : (ℕ → Bool) → Type 0
+Unchanged chosen =
+    (t : Tag) (m : List ℕ) (es : List Event)
+    → Shut chosen (t .vault .keys .session)
+    → unopened chosen t m es ≡ true
+    → Kept chosen (t .vault) m (run t m es .tag .vault) (run t m es .memory)
+
+-- ---- "give the same bytes and silences", and with it the whole demand
+
+-- the answers are a list with one for each event, silence being no bytes
+pub record Secret (chosen : ℕ → Bool) (t u : Tag) (m o : List ℕ) (es : List Event) : Type 0 where
+  pub answers : run t m es .answers ≡ run u o es .answers
+  pub alike : Alike chosen (run t m es .tag) (run u o es .tag) (run t m es .memory) (run u o es .memory)
+  pub kept : Kept chosen (t .vault) m (run t m es .tag .vault) (run t m es .memory)
+  pub kept′ : Kept chosen (u .vault) o (run u o es .tag .vault) (run u o es .memory)
+
+-- each tag by itself hears none of its own passwords that guard; and their session is one, so that it is shut in both
+abbrev pub Secrecy : (ℕ → Bool) → Type 0
+Secrecy chosen =
+    (t u : Tag) (m o : List ℕ) (es : List Event)
+    → Alike chosen t u m o
+    → Shut chosen (t .vault .keys .session)
+    → unopened chosen t m es ≡ true
+    → unopened chosen u o es ≡ true
+    → Secret chosen t u m o es
+
+-- "one password (1 to 3)"
+abbrev pub only : ℕ → ℕ → Bool
+only p n = eqb n p
+
+abbrev pub Demand3 : Type 0
+Demand3 = Secrecy (only 1) × Secrecy (only 2) × Secrecy (only 3)
+
+-- ---- the same of host calls, whatever is lent
+
+-- after a call on each tag: number, length and every byte of the room
+pub record SameCall (chosen : ℕ → Bool) (t u : Tag) (m o : List ℕ) (r s : Outcome) (m′ o′ x′ y′ : List ℕ) : Type 0 where
+  pub refusal : r .refusal ≡ s .refusal
+  pub length : r .length ≡ s .length
+  pub room : x′ ≡ y′
+  pub alike : Alike chosen (r .tag) (s .tag) m′ o′
+  pub kept : Kept chosen (t .vault) m (r .tag .vault) m′
+  pub kept′ : Kept chosen (u .vault) o (s .tag .vault) o′
+
+-- for any record, memory and room: a call on each tag with the same event, and the same room x at entry. A call that is refused presents
+-- nothing
+abbrev pub CallSecrecy : (ℕ → Bool) → Type 0
+CallSecrecy chosen =
+    (t u : Tag) (m o : List ℕ) (e : Event) (x : List ℕ) (r s : Outcome) (m′ o′ x′ y′ : List ℕ)
+    → Alike chosen t u m o
+    → Shut chosen (t .vault .keys .session)
+    → (r .refusal ≡ refusal.None → opens chosen (t .vault .keys) (presented t m e) ≡ false)
+    → (s .refusal ≡ refusal.None → opens chosen (u .vault .keys) (presented u o e) ≡ false)
+    → EventGives t e m x m′ x′ r
+    → EventGives u e o x o′ y′ s
+    → SameCall chosen t u m o r s m′ o′ x′ y′
