@@ -7,7 +7,6 @@ use mathlib.Core.Bool.{true, false}
 use mathlib.Core.List.{List, [], _∷_}
 use lib.ListN.{length, getD, drop, replicate, length-append, length-drop, take-append-drop}
 use lib.Seq.{drop-at}
-use lib.Dec.{leb}
 use borrow.Author.Tests.{eqb-true, eq-eqb}
 use Rattle.put.specs.Number.{numberAt, bytesOf}
 use Rattle.put.proofs.RoundTrips.{placesAt, places, all-places, number-of-bytes, bytes-of-number}
@@ -23,18 +22,18 @@ use Rattle.tag.proofs.Off.{Off, is-off}
 
 -- the header rules, one by one
 pub record Header (blocks : ℕ) (i : List ℕ) : Type 0 where
-  pub mark : getD i 0 0 ≡ markOf (length i - 64)
-  pub locks : leb (getD i 11 0) 0x1F ≡ true
+  pub mark : markRule i ≡ true
+  pub locks : lockRule i ≡ true
   pub registers : possible (lastEnd blocks) (areasIn i) ≡ true
-  pub reserved : zeros 13 i 51 ≡ true
+  pub reserved : reservedRule i ≡ true
 
 pub header-rules : {blocks : ℕ} {i : List ℕ} → headerRule blocks i ≡ true → Header blocks i
-unfolding headerRule markRule lockRule reservedRule
+unfolding headerRule
 header-rules h =
     let halves = both _ _ h in
     let l = both _ _ (halves .0) in
     let r = both _ _ (halves .1) in
-    record { mark = eqb-true _ _ (l .0); locks = l .1; registers = r .0; reserved = r .1 }
+    record { mark = l .0; locks = l .1; registers = r .0; reserved = r .1 }
 
 zero-places : (k : ℕ) (s : List ℕ) (at : ℕ) → zeros k s at ≡ true → replicate k 0 ≡ placesAt k s at
 unfolding zeros placesAt
@@ -50,9 +49,9 @@ module _ {blocks : ℕ} {i : List ℕ} (h : Header blocks i) where
   sound-in = join (h .registers) refl
 
   header-again : ((n : ℕ) → getD i n 0 < 256) → headerOf (length i - 64) (tagIn i) ≡ placesAt 64 i 0
-  unfolding headerOf tagIn placesAt
+  unfolding markRule lockRule reservedRule headerOf tagIn placesAt
   header-again b =
-      rw (zero-places 13 i 51 (h .reserved), ← h .mark, bits-byte (getD i 11 0) (h .locks), bytes-of-number 8 i 1 b, bytes-of-number 8 i 19 b, bytes-of-number 8 i 27 b, bytes-of-number 8 i 35 b, bytes-of-number 8 i 43 b)
+      rw (zero-places 13 i 51 (h .reserved), ← eqb-true (getD i 0 0) (markOf (length i - 64)) (h .mark), bits-byte (getD i 11 0) (h .locks), bytes-of-number 8 i 1 b, bytes-of-number 8 i 19 b, bytes-of-number 8 i 27 b, bytes-of-number 8 i 35 b, bytes-of-number 8 i 43 b)
 
   pub image-again : ((n : ℕ) → getD i n 0 < 256) → 64 ≤ length i → imageOf (tagIn i) (drop 64 i) ≡ i
   unfolding imageOf

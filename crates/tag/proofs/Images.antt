@@ -89,7 +89,7 @@ load-save t i m j b e h =
     let s : Sized (drop 64 i) j = record { memory = rw n (a .sizes .memory); longer = omega arith } in
     rw (loading t a, saving (tagIn i) s (rw n (sound-in rules)), image-again rules b (omega arith), n, ← l)
 
--- "a round trip from a record is exact when the field is off": saving it is not refused, and what is saved loads as the same record and memory
+-- "a round trip from a record is exact when the field is off": it is saved, and what was saved loads as the same record and memory
 pub save-load : (t : Tag) (m j : List ℕ) → Lasting t → t .front .field ≡ false → sound (blocksOf m) t ≡ true → isMemory m ≡ true → length j ≡ 64 + length m → (t₀ : Tag) (m₀ : List ℕ) → length m₀ ≡ length m → (saveGiven t m j .result ≡ outcome refusal.None (64 + length m) t) × (loadGiven t₀ (saveGiven t m j .image) m₀ ≡ record { result = outcome refusal.None 0 t; memory = m })
 save-load t m j l e h w k t₀ m₀ n =
     let rules = sound-rules h in

@@ -11,4 +11,4 @@ locks-right-spec =
     tie.close
     (tie.spec
     (λ c κs. search needs)
-    (λ c. cc))
+    (λ c. rw (c .byte-at .ensures)))

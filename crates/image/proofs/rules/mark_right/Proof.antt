@@ -13,4 +13,4 @@ mark-right-spec =
     (λ c κs. search needs)
     (λ c κs. search needs)
     (λ c κs. search needs)
-    (λ c. cc))
+    (λ c. rw (c .before .before .byte-at .ensures, c .mark .ensures, c .before .memory-size .ensures)))
