@@ -1,17 +1,10 @@
 -- `image::rules::header_right` meets its contract.
 -- Assumes nothing.
-use Prim.Native.Nat.{ℕ, _+_, _*_}
-use native.Mathlib.Omega.{arith}
-use mathlib.Core.Path.{_≡_}
-use Rattle.tag.specs.Rules.{lastEnd}
 use Rattle.tag.specs.Image.{headerRule}
+use Rattle.image.proofs.Ends.{last-end}
 use borrow.Author.Needs.{needs}
 use Rattle.image.proofs.rules.header_right.Statement.{statement}
 use Rattle.image.proofs.rules.header_right.Tie as tie
-
--- a tag of so many blocks ends at e
-last : (e : ℕ) → lastEnd (8 * (e + 1)) ≡ e
-last e = omega arith
 
 pub header-right-spec : {M : Type 1} → statement M
 unfolding headerRule
@@ -23,4 +16,4 @@ header-right-spec =
     (λ c κs. search needs)
     (λ c κs. search needs)
     (λ c κs. search needs)
-    (λ c. rw (c .before .before .before .before .mark-right .ensures, c .before .before .before .locks-right .ensures, c .before .possible-areas .ensures, c .before .before .read-areas .ensures, c .reserved-right .ensures, last)))
+    (λ c. rw (c .before .before .before .before .mark-right .ensures, c .before .before .before .locks-right .ensures, c .before .possible-areas .ensures, c .before .before .read-areas .ensures, c .reserved-right .ensures, last-end)))

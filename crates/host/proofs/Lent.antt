@@ -1,0 +1,37 @@
+-- Lent buffers of the right lengths, and what a call gives.
+-- Assumes nothing.
+use Prim.Native.Nat.{ℕ, _+_, _*_}
+use mathlib.Core.Path.{_≡_}
+use mathlib.Core.Bool.{true}
+use mathlib.Core.List.{List}
+use lib.Dec.{eqb}
+use lib.ListN.{length}
+use borrow.Author.Tests.{eqb-true}
+use Rattle.put.specs.If.{if_then_else_}
+use Rattle.rights.proofs.Cases.{both, or-one}
+use Rattle.tag.specs.Rules.{blocksOf}
+use Rattle.record.specs.declared.Tag.{Tag}
+use Rattle.record.specs.declared.Outcome.{Outcome}
+use Rattle.tag.specs.Step.{Event}
+use Rattle.tag.specs.Host.{isMemory, fitsImage, EventGiven, eventGiven, EventGives, LoadGiven, loadGiven, LoadGives, SaveGiven, saveGiven, SaveGives}
+
+-- the blocks of a memory, from its last end
+pub blocks-by-end : (m : List ℕ) → isMemory m ≡ true → blocksOf m ≡ 8 * ((if eqb (length m) 2048 then 63 else 255) + 1)
+blocks-by-end m h =
+    or-one (eqb (length m) 2048) (eqb (length m) 8192) h
+    (λ e. rw (eqb-true (length m) 2048 e))
+    (λ e. rw (eqb-true (length m) 8192 e))
+
+pub fitting : (m i : List ℕ) → fitsImage m i ≡ true → (isMemory m ≡ true) × (length i ≡ 64 + length m)
+fitting m i h = let e = both (isMemory m) (eqb (length i) (64 + length m)) h in (e .0, eqb-true _ _ (e .1))
+
+-- ---- a call that gives what the definition names
+
+pub event-by : {t : Tag} {e : Event} {m x m′ x′ : List ℕ} {r : Outcome} (g : EventGiven) → eventGiven t e m x ≡ g → r ≡ g .result → m′ ≡ g .memory → x′ ≡ g .room → EventGives t e m x m′ x′ r
+event-by g h p q s = record { result = rw h p; memory = rw h q; room = rw h s }
+
+pub load-by : {t : Tag} {i m m′ : List ℕ} {r : Outcome} (g : LoadGiven) → loadGiven t i m ≡ g → r ≡ g .result → m′ ≡ g .memory → LoadGives t i m m′ r
+load-by g h p q = record { result = rw h p; memory = rw h q }
+
+pub save-by : {t : Tag} {m i i′ : List ℕ} {r : Outcome} (g : SaveGiven) → saveGiven t m i ≡ g → r ≡ g .result → i′ ≡ g .image → SaveGives t m i i′ r
+save-by g h p q = record { result = rw h p; image = rw h q }

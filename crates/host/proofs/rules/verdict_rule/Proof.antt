@@ -1,0 +1,17 @@
+-- `host::rules::verdict_rule` meets its contract.
+-- Assumes nothing.
+use Rattle.tag.specs.Rules.{heldRule}
+use borrow.Author.Needs.{needs}
+use Rattle.host.proofs.rules.verdict_rule.Statement.{statement}
+use Rattle.host.proofs.rules.verdict_rule.Tie as tie
+
+pub verdict-rule-spec : {M : Type 1} → statement M
+unfolding heldRule
+verdict-rule-spec =
+    tie.close
+    (tie.spec
+    (λ c. search needs)
+    (λ c. search needs)
+    (λ c κs. search needs)
+    (λ c. rw (c .enum-told .given .1))
+    (λ c. rw (c .before .before .v .given .1, c .is-code .ensures)))

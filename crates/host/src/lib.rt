@@ -1,0 +1,130 @@
+// The calls of a host: event, load and save, with the numbers 1 to 5 of document 01. Any record, any bytes and any buffers are taken, and
+// each call ends; no caller need test anything first.
+mod rules; // rules.rt: the record rules
+
+use image::reading;
+use image::rules::header_right;
+use image::writing;
+use record::Kind;
+use record::Outcome;
+use record::Refusal;
+use record::Tag;
+ghost use mathlib.Core.Path.{_≡_};
+ghost use mathlib.Core.Bool.{_&&_, _||_};
+ghost use Prim.Native.Nat.{_+_};
+ghost use lib.Dec.{eqb};
+ghost use Rattle.put.specs.If.{if_then_else_};
+ghost use Rattle.tag.specs.Step.{eventOf};
+ghost use Rattle.tag.specs.Host.{outcome, EventGives, LoadGives, SaveGives};
+
+// "user memory lent is not 2,048 or 8,192 bytes"
+fn is_memory(size: usize) -> bool
+    ensures { λ r. ⌜ r ≡ (eqb size 2048 || eqb size 8192) ⌝ }
+{
+    (size == 2048) | (size == 8192)
+}
+
+// "or does not fit the image's length"
+fn fits_image(size: usize, length: usize) -> bool
+    ensures { λ r. ⌜ r ≡ ((eqb size 2048 || eqb size 8192) && eqb length (64 + size)) ⌝ }
+{
+    if !is_memory(size) {
+        return false;
+    }
+    length == 64 + size
+}
+
+// "image is not 2,112 or 8,256 bytes"
+fn is_image(length: usize) -> bool
+    ensures { λ r. ⌜ r ≡ (eqb length 2112 || eqb length 8256) ⌝ }
+{
+    (length == 2112) | (length == 8256)
+}
+
+// "E is 63 or 255."
+fn last_end(size: usize) -> u8
+    ensures { λ r. ⌜ r ≡ (if eqb size 2048 then 63 else 255) ⌝ }
+{
+    if size == 2048 {
+        return 63;
+    }
+    255
+}
+
+// "A refusal returns its number and length 0; record and buffers stay."
+fn refuse(refusal: Refusal, t: Tag) -> Outcome
+    ensures { λ r. ⌜ r ≡ outcome refusal 0 t ⌝ }
+{
+    Outcome {
+        refusal,
+        length: 0,
+        tag: t,
+    }
+}
+
+// "An event checks 1, 2, 3 in that order."
+pub fn event(t: Tag, kind: Kind, frame: &[u8], memory: &mut [u8], room: &mut [u8]) -> Outcome
+    ensures { λ r. ⌜ EventGives t (eventOf kind (now (frame .entry))) (now (memory .entry)) (now (room .entry)) (now (memory .exit)) (now (room .exit)) r ⌝ }
+{
+    let size = memory.len();
+    if !is_memory(size) {
+        return refuse(Refusal::Memory, t);
+    }
+    if room.len() < 10243 {
+        return refuse(Refusal::Room, t);
+    }
+    if !rules::is_sound(last_end(size), t) {
+        return refuse(Refusal::Record, t);
+    }
+    let said = step::step(t, kind, frame, memory, room);
+    let tag = said.tag;
+    Outcome {
+        refusal: Refusal::None,
+        length: said.length,
+        tag,
+    }
+}
+
+// "Loading checks 4, then 1, then 5"
+pub fn load(t: Tag, image: &[u8], memory: &mut [u8]) -> Outcome
+    ensures { λ r. ⌜ LoadGives t (now (image .entry)) (now (memory .entry)) (now (memory .exit)) r ⌝ }
+{
+    let size = memory.len();
+    if !is_image(image.len()) {
+        return refuse(Refusal::Image, t);
+    }
+    if !fits_image(size, image.len()) {
+        return refuse(Refusal::Memory, t);
+    }
+    if !header_right(image, last_end(size)) {
+        return refuse(Refusal::Header, t);
+    }
+    let tag = reading::load(image, memory);
+    Outcome {
+        refusal: Refusal::None,
+        length: 0,
+        tag,
+    }
+}
+
+// "saving checks 4, 1, 3"
+pub fn save(t: Tag, memory: &[u8], image: &mut [u8]) -> Outcome
+    ensures { λ r. ⌜ SaveGives t (now (memory .entry)) (now (image .entry)) (now (image .exit)) r ⌝ }
+{
+    let size = memory.len();
+    if !is_image(image.len()) {
+        return refuse(Refusal::Image, t);
+    }
+    if !fits_image(size, image.len()) {
+        return refuse(Refusal::Memory, t);
+    }
+    if !rules::is_sound(last_end(size), t) {
+        return refuse(Refusal::Record, t);
+    }
+    let length = writing::save(t, memory, image);
+    Outcome {
+        refusal: Refusal::None,
+        length,
+        tag: t,
+    }
+}
