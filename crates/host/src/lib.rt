@@ -66,14 +66,15 @@ fn refuse(refusal: Refusal, t: Tag) -> Outcome
 pub fn event(t: Tag, kind: Kind, frame: &[u8], memory: &mut [u8], room: &mut [u8]) -> Outcome
     ensures { λ r. ⌜ EventGives t (eventOf kind (now (frame .entry))) (now (memory .entry)) (now (room .entry)) (now (memory .exit)) (now (room .exit)) r ⌝ }
 {
-    let size = memory.len();
-    if !is_memory(size) {
+    let lent = is_memory(memory.len());
+    let keeps = rules::is_sound(last_end(memory.len()), t);
+    if !lent {
         return refuse(Refusal::Memory, t);
     }
     if room.len() < 10243 {
         return refuse(Refusal::Room, t);
     }
-    if !rules::is_sound(last_end(size), t) {
+    if !keeps {
         return refuse(Refusal::Record, t);
     }
     let said = step::step(t, kind, frame, memory, room);
@@ -89,14 +90,16 @@ pub fn event(t: Tag, kind: Kind, frame: &[u8], memory: &mut [u8], room: &mut [u8
 pub fn load(t: Tag, image: &[u8], memory: &mut [u8]) -> Outcome
     ensures { λ r. ⌜ LoadGives t (now (image .entry)) (now (memory .entry)) (now (memory .exit)) r ⌝ }
 {
-    let size = memory.len();
-    if !is_image(image.len()) {
+    let whole = is_image(image.len());
+    let fits = fits_image(memory.len(), image.len());
+    let headed = header_right(image, last_end(memory.len()));
+    if !whole {
         return refuse(Refusal::Image, t);
     }
-    if !fits_image(size, image.len()) {
+    if !fits {
         return refuse(Refusal::Memory, t);
     }
-    if !header_right(image, last_end(size)) {
+    if !headed {
         return refuse(Refusal::Header, t);
     }
     let tag = reading::load(image, memory);
@@ -111,14 +114,16 @@ pub fn load(t: Tag, image: &[u8], memory: &mut [u8]) -> Outcome
 pub fn save(t: Tag, memory: &[u8], image: &mut [u8]) -> Outcome
     ensures { λ r. ⌜ SaveGives t (now (memory .entry)) (now (image .entry)) (now (image .exit)) r ⌝ }
 {
-    let size = memory.len();
-    if !is_image(image.len()) {
+    let sized = is_image(image.len());
+    let fitting = fits_image(memory.len(), image.len());
+    let right = rules::is_sound(last_end(memory.len()), t);
+    if !sized {
         return refuse(Refusal::Image, t);
     }
-    if !fits_image(size, image.len()) {
+    if !fitting {
         return refuse(Refusal::Memory, t);
     }
-    if !rules::is_sound(last_end(size), t) {
+    if !right {
         return refuse(Refusal::Record, t);
     }
     let length = writing::save(t, memory, image);
