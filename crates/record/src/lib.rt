@@ -63,7 +63,7 @@ pub enum Refusal {
     Header,
 }
 
-// What a host call gives: refusal, length of what it wrote, and the record
+// What a host call gives: refusal, length of the answer or of the saved image, and the record
 pub struct Outcome {
     pub refusal: Refusal,
     pub length: usize,

@@ -1,4 +1,4 @@
--- Laws of areas that crates above cite, so that nobody there unfolds a definition of this crate.
+-- Laws of areas: they guard the definition, and crates above go by them, so that nobody there unfolds it.
 -- Assumes nothing.
 use mathlib.Core.Path.{_≡_, refl}
 use mathlib.Core.Bool.{Bool, true, false, not, _&&_}

@@ -1,4 +1,4 @@
--- "A refusal .. stay": what is refused leaves a thing as it was, and what is taken makes it new.
+-- What is refused with an error leaves a thing as it was, and what is taken makes it new.
 -- Assumes nothing.
 use Rattle.rights.specs.declared.Verdict.{Verdict}
 use Rattle.rights.specs.declared.Verdict.the-variants.{Success, Error}

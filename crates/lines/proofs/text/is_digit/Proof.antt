@@ -1,0 +1,13 @@
+-- `lines::text::is_digit` meets its contract.
+-- Assumes nothing.
+use borrow.Author.Needs.{needs}
+use Rattle.lines.proofs.text.is_digit.Statement.{statement}
+use Rattle.lines.proofs.text.is_digit.Tie as tie
+
+pub is-digit-spec : {M : Type 1} → statement M
+is-digit-spec =
+    tie.close
+    (tie.spec
+    (λ c κs. search needs)
+    (λ c κs. search needs)
+    (λ c. cc))

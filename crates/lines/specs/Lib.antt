@@ -1,0 +1,4 @@
+pub mod Text
+pub mod Form
+pub mod Output
+pub mod Calls
