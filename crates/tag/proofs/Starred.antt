@@ -22,7 +22,7 @@ use Rattle.tag.specs.Work.{listing, applyToTag, applyToMemory, perform}
 use Rattle.tag.specs.Inventory.{maskTooLong, wrongLength, afiMatches, afiFits, maskFits, slotOf, inSlot, unheard, inventoryOf, nextSlot}
 use Rattle.tag.specs.Blocks.{readVerdict, statuses, statusVerdict, writeVerdict, blockUnits, lockVerdict}
 use Rattle.tag.specs.Commands.{actOf, requestOf}
-use Rattle.tag.specs.Step.{Event, fieldOn, request, frameOf, workOf, step, run}
+use Rattle.tag.specs.Step.{Event, fieldOn, endOfFrame, request, frameOf, workOf, step, run}
 use Rattle.tag.specs.Image.{factory}
 
 -- k bytes, as they are written: the first is the highest of the number
@@ -65,9 +65,9 @@ ends second x y z = record { rfa1ss = 0; enda1 = x; rfa2ss = second; enda2 = y; 
 unfoldable pub ours : ℕ
 ours = 0xE002230401D6C8F0
 
--- a UID whose highest four bits are 0, so that slot 0 is its own after a mask of 60 bits
+-- a UID whose highest four bits are 0, so that slot 0 is its own after a mask of 60 bits, and whose lowest four are not
 pub low : ℕ
-low = 0x0002230401D6C8F0
+low = 0x0002230401D6C8F5
 
 -- a factory tag but for its area registers
 pub withAreas : Tag → Areas → Tag
@@ -129,11 +129,11 @@ cases =
     (replicate 2048 0)
     -- "16 slots: mask length 60 is heard, 61 is silence."
     ∷ played (factory 63 low) (replicate 2048 0)
-    (fieldOn ∷ request (bytes 13 0x06013CF0C8D6010423020014B9) ∷ [])
-    ([] ∷ (bytes 12 0x0000F0C8D601042302006A44) ∷ [])
+    (fieldOn ∷ request (bytes 13 0x06013CF5C8D60104230200752E) ∷ [])
+    ([] ∷ (bytes 12 0x0000F5C8D601042302000BD3) ∷ [])
     (replicate 2048 0)
     ∷ played (factory 63 low) (replicate 2048 0)
-    (fieldOn ∷ request (bytes 13 0x06013DF0C8D60104230200E9F4) ∷ [])
+    (fieldOn ∷ request (bytes 13 0x06013DF5C8D601042302008863) ∷ [])
     ([] ∷ [] ∷ [])
     (replicate 2048 0)
     ∷ []
@@ -156,6 +156,26 @@ starred =
     (case 12 refl
     (case 13 refl
     end)))))))))))))
+
+-- ---- "Errors that have looked right", the one that no starred case sees: "Dropping a held answer's work along with the answer."
+
+pub errors : List Case
+errors =
+    -- the work of a held answer is done, and an end of frame gives the answer out
+    played (factory 63 ours) (replicate 2048 0)
+    (fieldOn ∷ request (bytes 9 0x422100AABBCCDD934E) ∷ endOfFrame ∷ endOfFrame ∷ [])
+    ([] ∷ [] ∷ (bytes 3 0x0078F0) ∷ [] ∷ [])
+    (bytes 4 0xAABBCCDD ++ replicate 2044 0)
+    -- another frame drops the answer, and the work stays
+    ∷ played (factory 63 ours) (replicate 2048 0)
+    (fieldOn ∷ request (bytes 9 0x422100AABBCCDD934E) ∷ request (bytes 5 0x0220004750) ∷ endOfFrame ∷ [])
+    ([] ∷ [] ∷ (bytes 7 0x00AABBCCDD627C) ∷ [] ∷ [])
+    (bytes 4 0xAABBCCDD ++ replicate 2044 0)
+    ∷ []
+
+pub errors-shut-out : Hold 0 errors
+unfolding errors holds same sameAll ends ours low withAreas split splitHidden filled bytes numberAt bytesOf crcBit crcBits crcByte crcFrom crcOf crcBytes sessionOf isOpen presentOf changedOf areaOf registerOf serves mayRead mayWrite readableAt writableAt lockedAt barredAt statusAt crossesAt anyBarred registerAt isRegister allows permits writtenOf withRegister entryOf firstOf moreOf headOf limitOf lengthOf check2 check3 check4 custom check5 afterCode fieldsAt otherUid check6 selectOfAnother check7 check8 check9 check10 heardOf listing applyToTag applyToMemory perform maskTooLong wrongLength afiMatches afiFits maskFits slotOf inSlot unheard inventoryOf nextSlot readVerdict statuses statusVerdict writeVerdict blockUnits lockVerdict actOf requestOf frameOf workOf step run factory
+errors-shut-out = case 0 refl (case 1 refl end)
 
 -- ---- the session that 01 prints, over `run`
 
