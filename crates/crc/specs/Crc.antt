@@ -1,5 +1,5 @@
 -- "CRC per ISO/IEC 15693: reflected polynomial 8408h, start FFFFh, complemented, low byte first."
--- ISO/IEC 15693-3, 7.3.2 and annex C: x^16 + x^12 + x^5 + 1, lowest bit first.
+-- The polynomial is x^16 + x^12 + x^5 + 1, lowest bit first.
 -- Assumes nothing.
 use Prim.Native.Nat.{ℕ, zero, suc, _-_, _/_, _%_}
 use mathlib.Core.List.{List, [], _∷_}

@@ -50,14 +50,14 @@ withSession k s = record { passwords = k .passwords; session = s }
 abbrev pub withPassword : Keys → ℕ → ℕ → Keys
 withPassword k n w = record { passwords = set (k .passwords) n w; session = k .session }
 
--- "Present B3h: number over 3 is 10h, sessions unchanged. Wrong value: 0Fh, no session open. Right: that session alone is open."
+-- "Present B3h (..): number over 3 is 10h, sessions unchanged. Wrong value: 0Fh, no session open. Right: that session alone is open."
 unfoldable pub presentOf : Keys → ℕ → ℕ → Presentation
 presentOf k n w =
     if ltb 3 n then record { answer = presented.NumberOver; keys = k } else
     if eqb (passwordOf k n) w then record { answer = presented.Right; keys = withSession k (sessionOf n) } else
     record { answer = presented.Wrong; keys = withSession k None }
 
--- "Write password B1h: number over 3 is 10h; its session not open 0Fh; otherwise replaced, session kept."
+-- "Write password B1h, same fields: number over 3 is 10h; its session not open 0Fh; otherwise replaced, session kept."
 unfoldable pub changedOf : Session → ℕ → Changed
 changedOf s n =
     if ltb 3 n then changed.NumberOver else

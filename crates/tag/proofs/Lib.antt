@@ -21,3 +21,4 @@ pub mod Unchanged
 pub mod Unlearned
 pub mod Secret
 pub mod SecretExamples
+pub mod Refused

@@ -1,4 +1,4 @@
--- Each command, decided from what any reader may learn.
+-- Each command, decided from all of the record but the passwords, and without the memory.
 -- Assumes nothing.
 use Prim.Native.Nat.{ℕ, _+_}
 use mathlib.Core.Bool.{Bool, true, false, _&&_}

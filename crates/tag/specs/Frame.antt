@@ -1,4 +1,4 @@
--- "From frame to command": "Checks, first match wins". Check 1 is where events are (Step).
+-- "From frame to command": "Checks, first match wins". A check is true where it matches, and so stops the frame. Check 1 is where events are (Step).
 -- Assumes nothing.
 use Prim.Native.Nat.{ℕ, _+_, _-_, _/_, _%_, _^_}
 use mathlib.Core.Bool.{Bool, true, false, not, _&&_, _||_}

@@ -1,5 +1,5 @@
 -- The command table: for each listed code its work, the width of its block numbers, whether it has a count, the length of its fields and
--- what it does with Option_flag. "Option_flag is taken by 02h, 20h, 23h, 30h, 33h and the write-like ones"
+-- what it does with Option_flag. Option_flag "is taken by 02h, 20h, 23h, 30h, 33h and the write-like ones below"
 -- Assumes nothing.
 use Prim.Native.Nat.{ℕ, _+_, _*_}
 use mathlib.Core.Bool.{true, false}

@@ -1,5 +1,5 @@
--- What a command comes to: it is decided in public, from what any reader may learn, and done through one gate, `perform`, the only
--- definition that is given passwords or memory.
+-- What a command comes to: it is decided from all of the record but the passwords, and without the memory, and done through one gate,
+-- `perform`, by which alone a command reaches passwords or memory.
 -- Assumes nothing.
 use Prim.Native.Nat.{ℕ, suc, zero, _+_, _*_}
 use mathlib.Core.Bool.{Bool, true, false, _&&_}

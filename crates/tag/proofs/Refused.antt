@@ -1,0 +1,38 @@
+-- The numbers of refusals, call by call, in their order: 0 where the call is done.
+-- Assumes nothing.
+use Prim.Native.Nat.{ℕ}
+use mathlib.Core.Path.{_≡_, refl}
+use mathlib.Core.Bool.{Bool, true, false, not}
+use mathlib.Core.List.{List}
+use lib.Dec.{ltb}
+use lib.ListN.{length}
+use Rattle.put.specs.If.{if_then_else_}
+use Rattle.record.specs.declared.Tag.{Tag}
+use Rattle.tag.specs.Rules.{blocksOf, sound}
+use Rattle.tag.specs.Step.{Event}
+use Rattle.tag.specs.Image.{headerRule}
+use Rattle.tag.specs.Host.{numberOf, isMemory, fitsImage, leastRoom, isImage, EventGiven, eventGiven, LoadGiven, loadGiven, SaveGiven, saveGiven}
+
+chosen : {A : Type 0} (f : A → ℕ) (a b c : Bool) (p q r s : A) → f (if a then p else if b then q else if c then r else s) ≡ (if a then f p else if b then f q else if c then f r else f s)
+chosen f true b c p q r s = refl
+chosen f false true c p q r s = refl
+chosen f false false true p q r s = refl
+chosen f false false false p q r s = refl
+
+-- "An event checks 1, 2, 3 in that order."
+pub event-number : (t : Tag) (e : Event) (m x : List ℕ) → numberOf (eventGiven t e m x .result .refusal) ≡ (if not (isMemory m) then 1 else if ltb (length x) leastRoom then 2 else if not (sound (blocksOf m) t) then 3 else 0)
+unfolding eventGiven
+event-number t e m x =
+    chosen (λ (g : EventGiven). numberOf (g .result .refusal)) (not (isMemory m)) (ltb (length x) leastRoom) (not (sound (blocksOf m) t)) _ _ _ _
+
+-- "Loading checks 4, then 1, then 5"
+pub load-number : (t : Tag) (i m : List ℕ) → numberOf (loadGiven t i m .result .refusal) ≡ (if not (isImage i) then 4 else if not (fitsImage m i) then 1 else if not (headerRule (blocksOf m) i) then 5 else 0)
+unfolding loadGiven
+load-number t i m =
+    chosen (λ (g : LoadGiven). numberOf (g .result .refusal)) (not (isImage i)) (not (fitsImage m i)) (not (headerRule (blocksOf m) i)) _ _ _ _
+
+-- "saving checks 4, 1, 3"
+pub save-number : (t : Tag) (m i : List ℕ) → numberOf (saveGiven t m i .result .refusal) ≡ (if not (isImage i) then 4 else if not (fitsImage m i) then 1 else if not (sound (blocksOf m) t) then 3 else 0)
+unfolding saveGiven
+save-number t m i =
+    chosen (λ (g : SaveGiven). numberOf (g .result .refusal)) (not (isImage i)) (not (fitsImage m i)) (not (sound (blocksOf m) t)) _ _ _ _
