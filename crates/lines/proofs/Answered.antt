@@ -1,4 +1,4 @@
--- A line that is an event: what the host call gives is within the room, and is what the line is answered with.
+-- How much of a line is there; and a line that is an event: what the host call gives is within the room, and is what the line is answered with.
 -- Assumes nothing.
 use mathlib.Core.Path.{_≡_, sym, _∙_, ap}
 use mathlib.Core.Logic.{⊎-elim}

@@ -1,4 +1,4 @@
--- An output line: number, space, what is answerText, newline; how it is written, and how long it is.
+-- An output line: number, space, what is answered, newline; how it is written, and how long it is.
 -- Assumes nothing.
 use mathlib.Core.Path.{_≡_, _∙_}
 use mathlib.Core.List.{List, [], _∷_, _++_}
@@ -11,7 +11,7 @@ use Rattle.put.proofs.Written.{Next, sum, store, more, whole}
 use Rattle.rights.proofs.Cases.{if-one}
 use Rattle.lines.specs.Text.{decimalOf}
 use Rattle.lines.specs.Output.{answerText, textOf}
-use Rattle.lines.proofs.Pieces.{low, begun}
+use Rattle.lines.proofs.Pieces.{one-next, begun}
 use Rattle.lines.proofs.Texts.{hex-length, decimal-length}
 
 module _ (number mark : ℕ) (answer : List ℕ) where
@@ -26,24 +26,24 @@ module _ (number mark : ℕ) (answer : List ℕ) where
   module _ {out₀ out : List ℕ} {at : ℕ} (h : length text ≤ length out₀) (p : Put (decimalOf number) out₀ out at) where
     pub space : Next text (0x20 ∷ []) (answerText mark answer ++ (0x0A ∷ [])) out₀ out at
     unfolding textOf
-    space = low (begun _ p h)
+    space = one-next (begun _ p h)
 
     pub answered : Next text (answerText mark answer) (0x0A ∷ []) out₀ (set out at 0x20) (at + 1)
     answered = record { written = store 0x20 space }
 
-    -- and what is answerText, after a space
+    -- and what is answered, after a space
     module _ {ys : List ℕ} {k : ℕ} (q : Put (answerText mark answer) (take (length (set out at 0x20) - (at + 1)) (drop (at + 1) (set out at 0x20))) ys k) where
       abbrev line : List ℕ
       line = take (at + 1) (set out at 0x20) ++ (ys ++ drop (length (set out at 0x20) - (at + 1)) (drop (at + 1) (set out at 0x20)))
 
       pub newline : Next text (0x0A ∷ []) [] out₀ line (at + 1 + k)
-      newline = low (more answered q)
+      newline = one-next (more answered q)
 
       pub line-within : at + 1 + k + 1 ≤ length out₀
       line-within = omega (arith, sum newline, newline .written .same)
 
-      pub line-same : length (set line (at + 1 + k) 0x0A) ≡ length out₀
-      line-same = length-set line (at + 1 + k) 0x0A ∙ newline .written .same
+      pub line-same : (y : ℕ) → length (set line (at + 1 + k) y) ≡ length out₀
+      line-same y = length-set line (at + 1 + k) y ∙ newline .written .same
 
       pub line-put : Put text out₀ (set line (at + 1 + k) 0x0A) (at + 1 + k + 1)
       line-put = whole (store 0x0A newline)

@@ -13,8 +13,8 @@ use Rattle.put.proofs.Written.{Written, Next, store, whole}
 
 module _ {L rest out₀ out : List ℕ} {at : ℕ} where
   -- one byte comes next, and is stored
-  pub low : {d : ℕ} → Written L (d ∷ rest) out₀ out at → Next L (d ∷ []) rest out₀ out at
-  low w = record { written = w }
+  pub one-next : {d : ℕ} → Written L (d ∷ rest) out₀ out at → Next L (d ∷ []) rest out₀ out at
+  one-next w = record { written = w }
 
   pub stored : {x y : ℕ} → x ≡ y → Next L (y ∷ []) rest out₀ out at → Written L rest out₀ (set out at x) (at + 1)
   stored e n = rw e (store _ n)
@@ -38,7 +38,7 @@ put-one [] x h = absurd (omega arith)
 put-one (y ∷ ys) x h = record { count = refl; is = refl }
 
 pub put-last : {v out₀ out : List ℕ} {at : ℕ} (x : ℕ) → Put v out₀ out at → length (v ++ (x ∷ [])) ≤ length out₀ → Put (v ++ (x ∷ [])) out₀ (set out at x) (at + 1)
-put-last x p h = whole (store x (low (begun (x ∷ []) p h)))
+put-last x p h = whole (store x (one-next (begun (x ∷ []) p h)))
 
 -- what was put at the start is what stands there
 pub put-there : {v out₀ out : List ℕ} {at : ℕ} → Put v out₀ out at → take at out ≡ v
@@ -54,4 +54,4 @@ module _ {v out₀ out c : List ℕ} {at : ℕ} (p : Put v out₀ out at) (h : l
   sealed-put =
       let two : at + 2 ≡ at + 1 + 1 = omega arith in
       let f : c ≡ crcBytes v = e ∙ ap crcBytes (put-there p) in
-      rw (two, f) (whole (store _ (low (store _ (low (begun (crcBytes v) p (simp length-append h)))))))
+      rw (two, f) (whole (store _ (one-next (store _ (one-next (begun (crcBytes v) p (simp length-append h)))))))

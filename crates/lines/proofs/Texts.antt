@@ -65,13 +65,13 @@ module _ (i : ℕ) (s : List ℕ) where
   unfolding allDigits
   no-more h = rw (drop-of-length-le s h)
 
-pub figure-least : (d : ℕ) → isFigure d ≡ true → (0x30 ≤ d) × (d ≤ 0x39)
-figure-least d h =
+pub figure-range : (d : ℕ) → isFigure d ≡ true → (0x30 ≤ d) × (d ≤ 0x39)
+figure-range d h =
     let e = both (leb 0x30 d) (leb d 0x39) h in
     (leb-true 0x30 d (e .0), leb-true d 0x39 (e .1))
 
-pub letter-least : (d : ℕ) → isLetter d ≡ true → (0x41 ≤ d) × (d ≤ 0x46)
-letter-least d h =
+pub letter-range : (d : ℕ) → isLetter d ≡ true → (0x41 ≤ d) × (d ≤ 0x46)
+letter-range d h =
     let e = both (leb 0x41 d) (leb d 0x46) h in
     (leb-true 0x41 d (e .0), leb-true d 0x46 (e .1))
 
@@ -79,8 +79,8 @@ pub value-most : (d : ℕ) → valueOf d ≤ 15
 unfolding valueOf
 value-most d =
     if-one (λ (n : ℕ). n ≤ 15) (isFigure d)
-    (λ e. omega (arith, figure-least d e .1))
-    (λ e. if-one (λ (n : ℕ). n ≤ 15) (isLetter d) (λ f. omega (arith, letter-least d f .1)) (λ f. omega arith))
+    (λ e. omega (arith, figure-range d e .1))
+    (λ e. if-one (λ (n : ℕ). n ≤ 15) (isLetter d) (λ f. omega (arith, letter-range d f .1)) (λ f. omega arith))
 
 -- ---- pairs of digits
 

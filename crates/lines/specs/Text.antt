@@ -2,7 +2,7 @@
 -- Assumes nothing.
 use Prim.Native.Nat.{ℕ, zero, suc, _+_, _-_, _*_, _/_, _%_}
 use Prim.Native.Char.{code}
-use Prim.Native.String.{String, [] as end, _∷_ as _then_}
+use Prim.Native.String.{String, [] as end, _∷_ as _before_}
 use mathlib.Core.Bool.{Bool, true, false, _&&_, _||_}
 use mathlib.Core.List.{List, [], _∷_, _++_}
 use lib.Dec.{leb, ltb, eqb}
@@ -11,7 +11,7 @@ use Rattle.put.specs.If.{if_then_else_}
 -- the bytes of a quoted text of ASCII characters
 unfoldable pub bytesOfText : String → List ℕ
 bytesOfText end = []
-bytesOfText (c then s) = code c ∷ bytesOfText s
+bytesOfText (c before s) = code c ∷ bytesOfText s
 
 -- two texts are the same, byte by byte
 unfoldable pub same : List ℕ → List ℕ → Bool

@@ -1,4 +1,4 @@
--- `lines::answer_line` meets its contract: each arm.
+-- `lines::answer_line` meets its contract, in each arm.
 -- Assumes nothing.
 use mathlib.Core.Path.{refl}
 use borrow.Author.Needs.{needs}

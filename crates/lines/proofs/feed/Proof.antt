@@ -13,6 +13,6 @@ feed-spec =
     tie.close
     (tie.spec
     (λ c κs. search needs)
-    (λ c. rw (eq-eqb _ _ (c .before .before .before .before .if1 .taken)) (c .end-line .ensures))
+    (λ c. rw (eq-eqb _ 0x0A (c .before .before .before .before .if1 .taken)) (c .end-line .ensures))
     (λ c κs. search needs)
-    (λ c. rw (ne-eqb _ _ (c .before .if1 .left)) (record { progress = c .add-byte .ensures; memory = refl; room = refl; out = record { count = refl; is = refl } })))
+    (λ c. rw (ne-eqb _ 0x0A (c .before .if1 .left)) (record { progress = c .add-byte .ensures; memory = refl; room = refl; out = record { count = refl; is = refl } })))

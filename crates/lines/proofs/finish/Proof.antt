@@ -12,6 +12,6 @@ unfolding finished
 finish-spec =
     tie.close
     (tie.spec
-    (λ c. rw (eq-eqb _ _ (c .if1 .taken)) (record { progress = refl; memory = refl; room = refl; out = record { count = refl; is = refl } }))
+    (λ c. rw (eq-eqb _ 0 (c .if1 .taken)) (record { progress = refl; memory = refl; room = refl; out = record { count = refl; is = refl } }))
     (λ c κs. search needs)
-    (λ c. rw (ne-eqb _ _ (c .before .before .before .before .if1 .left)) (c .end-line .ensures)))
+    (λ c. rw (ne-eqb _ 0 (c .before .before .before .before .if1 .left)) (c .end-line .ensures)))

@@ -4,7 +4,7 @@ use Prim.Native.Nat.{_-_, _≤_}
 use lib.ListN.{length, drop}
 use Rattle.put.proofs.Written.{Written, none, sum}
 use Rattle.lines.proofs.Texts.{high, hex-end}
-use Rattle.lines.proofs.Pieces.{low, stored}
+use Rattle.lines.proofs.Pieces.{one-next, stored}
 use Rattle.lines.specs.Text.{same, hexOf}
 use borrow.Author.Needs.{needs}
 use native.Mathlib.Omega.{arith}
@@ -27,10 +27,10 @@ put-hex-spec =
     (λ c. omega (arith, sum (high _ _ (c .before .before .before .loop .inv .1) (c .before .before .loop-test .taken))))
     (λ c. omega (arith, sum (high _ _ (c .before .before .before .loop .inv .1) (c .before .before .loop-test .taken))))
     (λ c κs. omega (arith))
-    (λ c. omega (arith, sum (low (stored (c .before .hex-digit .ensures) (high _ _ (c .before .before .before .before .loop .inv .1) (c .before .before .before .loop-test .taken))))))
-    (λ c. omega (arith, sum (low (stored (c .before .hex-digit .ensures) (high _ _ (c .before .before .before .before .loop .inv .1) (c .before .before .before .loop-test .taken))))))
+    (λ c. omega (arith, sum (one-next (stored (c .before .hex-digit .ensures) (high _ _ (c .before .before .before .before .loop .inv .1) (c .before .before .before .loop-test .taken))))))
+    (λ c. omega (arith, sum (one-next (stored (c .before .hex-digit .ensures) (high _ _ (c .before .before .before .before .loop .inv .1) (c .before .before .before .loop-test .taken))))))
     (λ c. search needs)
     (λ c. search needs)
-    (λ c. (omega arith, stored (c .hex-digit2 .ensures) (low (stored (c .before .hex-digit .ensures) (high _ _ (c .before .before .before .before .loop .inv .1) (c .before .before .before .loop-test .taken))))))
+    (λ c. (omega arith, stored (c .hex-digit2 .ensures) (one-next (stored (c .before .hex-digit .ensures) (high _ _ (c .before .before .before .before .loop .inv .1) (c .before .before .before .loop-test .taken))))))
     (λ c. c .before .loop .inv .1 .same)
     (λ c. hex-end _ _ (c .before .loop .inv .1) (c .loop-test .left)))

@@ -21,5 +21,5 @@ put-line-spec =
     (λ c. let s = c .before .before .before .before .before .before .before .before .before .before in omega (arith, line-within (s .args .number) (s .args .mark) (s .args .answer .now) (s .pre) (c .before .before .before .before .before .before .put-decimal .ensures) (c .before .before .put-answer .ensures)))
     (λ c. let s = c .before .before .before .before .before .before .before .before .before .before in omega (arith, sum (newline (s .args .number) (s .args .mark) (s .args .answer .now) (s .pre) (c .before .before .before .before .before .before .put-decimal .ensures) (c .before .before .put-answer .ensures))))
     (λ c. let s = c .before .before .before .before .before .before .before .before .before .before in omega (arith, line-within (s .args .number) (s .args .mark) (s .args .answer .now) (s .pre) (c .before .before .before .before .before .before .put-decimal .ensures) (c .before .before .put-answer .ensures)))
-    (λ c. let s = c .before .before .before .before .before .before .before .before .before .before in line-same (s .args .number) (s .args .mark) (s .args .answer .now) (s .pre) (c .before .before .before .before .before .before .put-decimal .ensures) (c .before .before .put-answer .ensures))
+    (λ c. let s = c .before .before .before .before .before .before .before .before .before .before in line-same (s .args .number) (s .args .mark) (s .args .answer .now) (s .pre) (c .before .before .before .before .before .before .put-decimal .ensures) (c .before .before .put-answer .ensures) _)
     (λ c. let s = c .before .before .before .before .before .before .before .before .before .before in line-put (s .args .number) (s .args .mark) (s .args .answer .now) (s .pre) (c .before .before .before .before .before .before .put-decimal .ensures) (c .before .before .put-answer .ensures)))

@@ -1,7 +1,7 @@
 -- `lines::text::value` meets its contract: the subtractions do not go below 0, since the byte is a digit.
 -- Assumes nothing.
 use mathlib.Core.Path.{sym, _∙_}
-use Rattle.lines.proofs.Texts.{figure-least, letter-least}
+use Rattle.lines.proofs.Texts.{figure-range, letter-range}
 use Rattle.lines.specs.Text.{valueOf}
 use borrow.Author.Needs.{needs}
 use native.Mathlib.Omega.{arith}
@@ -14,9 +14,9 @@ value-spec =
     tie.close
     (tie.spec
     (λ c κs. search needs)
-    (λ c. omega (arith, figure-least (c .before .before .args .d) (sym (c .before .is-figure .ensures) ∙ c .if1 .taken)))
+    (λ c. omega (arith, figure-range (c .before .before .args .d) (sym (c .before .is-figure .ensures) ∙ c .if1 .taken)))
     (λ c. rw (← c .before .is-figure .ensures, c .if1 .taken))
     (λ c κs. search needs)
-    (λ c. omega (arith, letter-least (c .before .before .before .before .args .d) (sym (c .before .is-letter .ensures) ∙ c .if2 .taken)))
+    (λ c. omega (arith, letter-range (c .before .before .before .before .args .d) (sym (c .before .is-letter .ensures) ∙ c .if2 .taken)))
     (λ c. rw (← c .before .before .before .is-figure .ensures, c .before .before .if1 .left, ← c .before .is-letter .ensures, c .if2 .taken))
     (λ c. rw (← c .before .before .before .is-figure .ensures, c .before .before .if1 .left, ← c .before .is-letter .ensures, c .if2 .left)))

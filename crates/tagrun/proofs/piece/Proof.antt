@@ -1,0 +1,62 @@
+use borrow.Author.Needs.{needs}
+use Prim.Native.Nat.{_-_, _≤_}
+use lib.ListN.{length}
+use Rattle.tagrun.proofs.piece.Statement.{statement}
+use Rattle.tagrun.proofs.piece.Tie as tie
+use Rattle.tagrun.proofs.piece.Reads as reads
+use Rattle.tagrun.proofs.piece.Lts as lts
+use Rattle.lines.proofs.feed.Reads as feed-reads
+use Rattle.tagrun.proofs.show.Reads as show-reads
+
+abbrev Inv-loop : tie.InvT-loop
+Inv-loop bytes memory₀ room₀ out₀ p₀ i₀ memory room out p i = i ≤ length bytes
+
+abbrev μ-loop : tie.MeasureT-loop
+μ-loop bytes memory₀ room₀ out₀ p₀ i₀ memory room out p i = length bytes - i
+
+-- src/main.rt:13:5
+loop-holds : tie.Need-loop-holds Inv-loop μ-loop
+loop-holds c = search needs
+
+-- src/main.rt:14:32
+shared-slice-read-feed : tie.Need-shared-slice-read-feed Inv-loop μ-loop
+shared-slice-read-feed c = search needs
+
+-- src/main.rt:14:13
+feed-requires : tie.Need-feed-requires Inv-loop μ-loop
+feed-requires c κs = search needs
+
+-- src/main.rt:15:9
+show-requires : tie.Need-show-requires Inv-loop μ-loop
+show-requires c κs = search needs
+
+-- src/main.rt:17:9
+add-i : tie.Need-add-i Inv-loop μ-loop
+add-i c = search needs
+
+-- src/main.rt:13:5
+loop-less : tie.Need-loop-less Inv-loop μ-loop
+loop-less c = search needs
+
+-- src/main.rt:13:5
+loop-again : tie.Need-loop-again Inv-loop μ-loop
+loop-again c = search needs
+
+-- src/main.rt:10:1
+returns : tie.Need-returns Inv-loop μ-loop
+returns c = search needs
+
+pub piece-spec : {M : Type 1} → statement M
+piece-spec =
+    tie.close
+    (tie.spec
+    Inv-loop
+    μ-loop
+    loop-holds
+    shared-slice-read-feed
+    feed-requires
+    show-requires
+    add-i
+    loop-less
+    loop-again
+    returns)
