@@ -1,3 +1,5 @@
+-- `tagrun::show` is safe and ends: what is written lies within the buffer.
+-- Assumes nothing.
 use mathlib.Core.Path.{sym}
 use lib.Seq.{length-take-le}
 use borrow.Author.Needs.{needs}
@@ -7,19 +9,15 @@ use Rattle.tagrun.proofs.show.Reads as reads
 use Rattle.tagrun.proofs.show.Lts as lts
 use Rattle.io.proofs.write_all.Reads as write-all-reads
 
--- src/main.rt:6:26
 slice-aggregate-write-all : tie.Need-slice-aggregate-write-all
 slice-aggregate-write-all c = sym (length-take-le _ _ (search needs))
 
--- src/main.rt:6:9
 write-all-requires : tie.Need-write-all-requires
 write-all-requires c κs = search needs
 
--- src/main.rt:4:1
 returns : tie.Need-returns
 returns c = search needs
 
--- src/main.rt:4:1
 returns-2 : tie.Need-returns-2
 returns-2 c = search needs
 
