@@ -1,4 +1,4 @@
-// From an image to record and memory.
+// From an image to record and memory, and the record of a factory tag.
 use put::byte_at;
 use put::copy;
 use put::number8;
@@ -14,7 +14,7 @@ use rights::Vault;
 ghost use mathlib.Core.Path.{_≡_};
 ghost use Prim.Native.Nat.{_+_};
 ghost use lib.ListN.{length, drop};
-ghost use Rattle.tag.specs.Image.{areasIn, tagIn};
+ghost use Rattle.tag.specs.Image.{areasIn, tagIn, factory};
 
 // "12 to 18 RFA1SS, ENDA1, RFA2SS, ENDA2, RFA3SS, ENDA3, RFA4SS"
 pub fn read_areas(image: &[u8]) -> Areas
@@ -96,4 +96,42 @@ pub fn load(image: &[u8], memory: &mut [u8]) -> Tag
 {
     copy(&image[64..], memory);
     read_header(image)
+}
+
+// "A factory tag has zero memory, passwords, locks, AFI, DSFID and RFAiSS, and all ends at E."
+pub fn factory(e: u8, uid: u64) -> Tag
+    ensures { λ r. ⌜ r ≡ factory e uid ⌝ }
+{
+    let front = Front {
+        uid,
+        afi: 0,
+        dsfid: 0,
+        lockafi: false,
+        lockdsfid: false,
+        field: false,
+        state: State::Ready,
+        round: Round::None,
+        held: Held::None,
+    };
+    let areas = Areas {
+        rfa1ss: 0,
+        enda1: e,
+        rfa2ss: 0,
+        enda2: e,
+        rfa3ss: 0,
+        enda3: e,
+        rfa4ss: 0,
+    };
+    let keys = Keys {
+        passwords: [0; 4],
+        session: Session::None,
+    };
+    let vault = Vault {
+        areas,
+        lock0: false,
+        lock1: false,
+        lockcfg: false,
+        keys,
+    };
+    Tag { front, vault }
 }

@@ -22,7 +22,7 @@ use Rattle.lines.specs.declared.Progress.{Progress}
 use Rattle.lines.specs.declared.Fed.{Fed}
 use Rattle.lines.specs.Form.{eventIn}
 use Rattle.lines.specs.Output.{dash, textOf}
-use Rattle.lines.proofs.Texts.{less-or-not}
+use Rattle.text.proofs.Texts.{less-or-not}
 use Rattle.lines.specs.Calls.{afterLine, lineGiven, Gives}
 
 -- as much of a line of 129 bytes as is there

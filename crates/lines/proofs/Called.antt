@@ -8,7 +8,7 @@ use Rattle.put.proofs.Only.{one-result, one-put}
 use Rattle.tag.proofs.OnlyOne.{ExactlyOne}
 use Rattle.lines.specs.declared.Fed.{Fed}
 use Rattle.lines.specs.Calls.{Given, Gives}
-use Rattle.lines.proofs.Pieces.{put-within}
+use Rattle.text.proofs.Pieces.{put-within}
 
 -- an outcome: the result, and every lent buffer as it is left
 pub record Left : Type 0 where

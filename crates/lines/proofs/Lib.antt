@@ -1,6 +1,5 @@
 pub mod Printed
-pub mod Pieces
-pub mod Texts
+pub mod Sealed
 pub mod OutputLine
 pub mod Answered
 pub mod Called

@@ -9,10 +9,10 @@ use lib.Dec.{eqb}
 use Rattle.put.specs.Put.{Put}
 use Rattle.put.proofs.Written.{Next, sum, store, more, whole}
 use Rattle.rights.proofs.Cases.{if-one}
-use Rattle.lines.specs.Text.{decimalOf}
+use Rattle.text.specs.Text.{decimalOf}
 use Rattle.lines.specs.Output.{answerText, textOf}
-use Rattle.lines.proofs.Pieces.{one-next, begun}
-use Rattle.lines.proofs.Texts.{hex-length, decimal-length}
+use Rattle.text.proofs.Pieces.{one-next, begun}
+use Rattle.text.proofs.Texts.{hex-length, decimal-length}
 
 module _ (number mark : ℕ) (answer : List ℕ) where
   abbrev text : List ℕ

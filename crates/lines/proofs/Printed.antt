@@ -18,7 +18,7 @@ use Rattle.tag.specs.Blocks.{readVerdict, statuses, statusVerdict, writeVerdict
 use Rattle.tag.specs.Commands.{actOf, requestOf}
 use Rattle.tag.specs.Step.{frameOf, workOf, step}
 use Rattle.tag.specs.Image.{factory}
-use Rattle.lines.specs.Text.{bytesOfText, same, hexOf, allDigits, valueOf, bytesIn, decimal, decimalOf}
+use Rattle.text.specs.Text.{bytesOfText, same, hexOf, allDigits, valueOf, bytesIn, decimal, decimalOf}
 use Rattle.lines.specs.Form.{linesFrom, isRequest, formOf}
 use Rattle.lines.specs.Output.{atFirst, nextNumber, answerText, textOf, outputFrom, outputOf}
 

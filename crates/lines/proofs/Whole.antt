@@ -22,11 +22,11 @@ use Rattle.tag.proofs.Sound.{stays-sound, factory-sound}
 use Rattle.lines.specs.declared.form.Form.{Form}
 use Rattle.lines.specs.declared.form.Form.the-variants as form
 use Rattle.lines.specs.declared.Progress.{Progress}
-use Rattle.lines.specs.Text.{bytesOfText, same}
+use Rattle.text.specs.Text.{bytesOfText, same}
 use Rattle.lines.specs.Form.{linesFrom, isRequest, formOf, eventIn}
 use Rattle.lines.specs.Output.{Bench, atFirst, dash, textOf, saidBy, outputFrom, outputOf}
 use Rattle.lines.specs.Calls.{started, soFar, withByte, Given, nothing, lineGiven, ended, fed, finished, written}
-use Rattle.lines.proofs.Texts.{less-or-not, unlike}
+use Rattle.text.proofs.Texts.{less-or-not, unlike}
 
 -- ---- a line of over 128 bytes has no form, and so 129 of them tell
 

@@ -12,7 +12,7 @@ use Rattle.tag.specs.Step.{eventOf, sealed}
 use Rattle.tag.specs.Step as step
 use Rattle.lines.specs.declared.form.Form.{Form}
 use Rattle.lines.specs.declared.form.Form.the-variants.{Event, NoForm}
-use Rattle.lines.specs.Text.{bytesOfText, same, allDigits, bytesIn}
+use Rattle.text.specs.Text.{bytesOfText, same, allDigits, bytesIn}
 
 -- "Lines end in a newline; a last one may lack it"
 abbrev pub lastLine : List ℕ → List (List ℕ)

@@ -10,7 +10,7 @@ use Rattle.tag.specs.Step.{step}
 use Rattle.tag.specs.Image.{factory}
 use Rattle.lines.specs.declared.form.Form.{Form}
 use Rattle.lines.specs.declared.form.Form.the-variants.{Event, NoForm}
-use Rattle.lines.specs.Text.{hexOf, decimalOf}
+use Rattle.text.specs.Text.{hexOf, decimalOf}
 use Rattle.lines.specs.Form.{linesOf, formOf, eventIn}
 
 -- what stands between two lines: the number of the next line, and the tag with its memory

@@ -1,26 +1,18 @@
 // The text of a session, as document 01 says ("Session program"): one call for each input byte, and one for the end of the input.
 mod form; // form.rt: what a line is, and the frame of a request
-mod text; // text.rt: bytes in hex, numbers in decimal, an output line
+mod output; // output.rt: an output line
 
 use form::Form;
-use record::Front;
-use record::Held;
 use record::Kind;
 use record::Outcome;
-use record::Round;
-use record::State;
 use record::Tag;
-use rights::Areas;
-use rights::Keys;
-use rights::Session;
-use rights::Vault;
 ghost use mathlib.Core.Path.{_≡_};
 ghost use Prim.Native.Nat.{_≤_, min};
 ghost use lib.ListN.{length};
 ghost use Rattle.put.specs.Put.{Put};
 ghost use Rattle.tag.specs.Host.{EventGives};
 ghost use Rattle.lines.specs.Form.{formOf, eventIn};
-ghost use Rattle.lines.specs.Output.{firstTag, nextNumber, textOf};
+ghost use Rattle.lines.specs.Output.{nextNumber, textOf};
 ghost use Rattle.lines.specs.Calls.{started, withByte, afterLine, lineGiven, ended, fed, finished, Suits, Gives};
 
 // How far a session is: the tag, the number of the next output line, and the line so far, which is kept up to 129 bytes: a longer line has
@@ -36,44 +28,6 @@ pub struct Progress {
 pub struct Fed {
     pub progress: Progress,
     pub length: usize,
-}
-
-// "A factory tag has zero memory, passwords, locks, AFI, DSFID and RFAiSS, and all ends at E."
-fn first_tag() -> Tag
-    ensures { λ r. ⌜ r ≡ firstTag ⌝ }
-{
-    let front = Front {
-        uid: 0xE002_2304_01D6_C8F0,
-        afi: 0,
-        dsfid: 0,
-        lockafi: false,
-        lockdsfid: false,
-        field: false,
-        state: State::Ready,
-        round: Round::None,
-        held: Held::None,
-    };
-    let areas = Areas {
-        rfa1ss: 0,
-        enda1: 63,
-        rfa2ss: 0,
-        enda2: 63,
-        rfa3ss: 0,
-        enda3: 63,
-        rfa4ss: 0,
-    };
-    let keys = Keys {
-        passwords: [0; 4],
-        session: Session::None,
-    };
-    let vault = Vault {
-        areas,
-        lock0: false,
-        lock1: false,
-        lockcfg: false,
-        keys,
-    };
-    Tag { front, vault }
 }
 
 fn next_number(n: u64) -> u64
@@ -118,7 +72,7 @@ fn say(p: Progress, tag: Tag, mark: u8, answer: &[u8], out: &mut [u8]) -> Fed
     requires { ⌜ (length (now answer) ≤ 10243) × (20508 ≤ length (now out)) ⌝ }
     ensures { λ r. ⌜ (r .progress ≡ afterLine p tag) × Put (textOf (p .number) mark (now (answer .entry))) (now (out .entry)) (now (out .exit)) (r .length) ⌝ }
 {
-    let length = text::put_line(p.number, mark, answer, out);
+    let length = output::put_line(p.number, mark, answer, out);
     let number = next_number(p.number);
     let progress = Progress {
         tag,
@@ -175,7 +129,7 @@ fn end_line(p: Progress, memory: &mut [u8], room: &mut [u8], out: &mut [u8]) -> 
 pub fn start() -> Progress
     ensures { λ r. ⌜ r ≡ started ⌝ }
 {
-    let tag = first_tag();
+    let tag = image::reading::factory(63, 0xE002_2304_01D6_C8F0);
     Progress {
         tag,
         number: 1,

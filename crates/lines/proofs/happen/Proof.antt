@@ -2,8 +2,8 @@
 -- Assumes nothing.
 use mathlib.Core.Path.{sym}
 use lib.Seq.{length-take-le}
-use Rattle.lines.proofs.Pieces.{put-there, put-within}
-use Rattle.lines.proofs.Texts.{bytes-length}
+use Rattle.text.proofs.Pieces.{put-there, put-within}
+use Rattle.text.proofs.Texts.{bytes-length}
 use borrow.Author.Needs.{needs}
 use native.Mathlib.Omega.{arith}
 use Rattle.lines.proofs.happen.Statement.{statement}

@@ -11,4 +11,4 @@ start-spec =
     tie.close
     (tie.spec
     (λ c κs. search needs)
-    (λ c. rw (c .first-tag .ensures)))
+    (λ c. rw (c .factory .ensures)))

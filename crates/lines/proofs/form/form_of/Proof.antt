@@ -1,6 +1,6 @@
 -- `lines::form::form_of` meets its contract: each test chooses as the definition does.
 -- Assumes nothing.
-use Rattle.lines.specs.Text.{bytesOfText}
+use Rattle.text.specs.Text.{bytesOfText}
 use Rattle.lines.specs.Form.{formOf}
 use borrow.Author.Needs.{needs}
 use Rattle.lines.proofs.form.form_of.Statement.{statement}

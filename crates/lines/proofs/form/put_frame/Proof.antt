@@ -3,7 +3,8 @@
 use mathlib.Core.Path.{sym}
 use lib.Seq.{length-take-le}
 use lib.ListN.{length-set}
-use Rattle.lines.proofs.Pieces.{sealed-put, put-within}
+use Rattle.text.proofs.Pieces.{put-within}
+use Rattle.lines.proofs.Sealed.{sealed-put}
 use borrow.Author.Needs.{needs}
 use native.Mathlib.Omega.{arith}
 use Rattle.lines.proofs.form.put_frame.Statement.{statement}

@@ -1,11 +1,11 @@
--- `lines::text::put_answer` meets its contract.
+-- `lines::output::put_answer` meets its contract.
 -- Assumes nothing.
 use borrow.Author.Tests.{eq-eqb, ne-eqb}
 use Rattle.lines.specs.Output.{answerText}
-use Rattle.lines.proofs.Pieces.{put-one}
+use Rattle.text.proofs.Pieces.{put-one}
 use borrow.Author.Needs.{needs}
-use Rattle.lines.proofs.text.put_answer.Statement.{statement}
-use Rattle.lines.proofs.text.put_answer.Tie as tie
+use Rattle.lines.proofs.output.put_answer.Statement.{statement}
+use Rattle.lines.proofs.output.put_answer.Tie as tie
 
 pub put-answer-spec : {M : Type 1} → statement M
 unfolding answerText

@@ -1,11 +1,11 @@
--- `lines::text::put_line` meets its contract.
+-- `lines::output::put_line` meets its contract.
 -- Assumes nothing.
 use Rattle.put.proofs.Written.{sum, room}
 use Rattle.lines.proofs.OutputLine.{decimal-fits, space, answered, newline, line-within, line-same, line-put}
 use borrow.Author.Needs.{needs}
 use native.Mathlib.Omega.{arith}
-use Rattle.lines.proofs.text.put_line.Statement.{statement}
-use Rattle.lines.proofs.text.put_line.Tie as tie
+use Rattle.lines.proofs.output.put_line.Statement.{statement}
+use Rattle.lines.proofs.output.put_line.Tie as tie
 
 pub put-line-spec : {M : Type 1} → statement M
 put-line-spec =

@@ -1,14 +1,12 @@
 -- A text that is written piece by piece.
 -- Assumes nothing.
-use mathlib.Core.Path.{_≡_, refl, ap, _∙_}
+use mathlib.Core.Path.{_≡_, refl}
 use mathlib.Core.List.{List, [], _∷_, _++_}
 use Prim.Native.Nat.{ℕ, _+_, _≤_, _<_}
 use native.Mathlib.Omega.{arith}
-use lib.ListN.{length, getD, set, take, drop, length-append, length-drop}
+use lib.ListN.{length, set, take, drop, length-append, length-drop}
 use lib.Seq.{take-at, drop-at}
 use Rattle.put.specs.Put.{Put}
-use Rattle.crc.specs.Crc.{crcBytes}
-use Rattle.tag.specs.Step.{sealed}
 use Rattle.put.proofs.Written.{Written, Next, store, whole}
 
 module _ {L rest out₀ out : List ℕ} {at : ℕ} where
@@ -46,12 +44,3 @@ put-there {v} {out₀} p = rw (p .is, p .count) (take-at v (drop (length v) out�
 
 pub put-within : {v out₀ out : List ℕ} {at : ℕ} → Put v out₀ out at → at ≤ length out
 put-within p = rw (p .is, p .count) (simp length-append (omega arith))
-
--- two bytes that are the CRC of what was put go after it
-module _ {v out₀ out c : List ℕ} {at : ℕ} (p : Put v out₀ out at) (h : length v + 2 ≤ length out₀) (e : c ≡ crcBytes (take at out)) where
-  pub sealed-put : Put (sealed v) out₀ (set (set out at (getD c 0 0)) (at + 1) (getD c 1 0)) (at + 2)
-  unfolding crcBytes
-  sealed-put =
-      let two : at + 2 ≡ at + 1 + 1 = omega arith in
-      let f : c ≡ crcBytes v = e ∙ ap crcBytes (put-there p) in
-      rw (two, f) (whole (store _ (one-next (store _ (one-next (begun (crcBytes v) p (simp length-append h)))))))

@@ -1,17 +1,17 @@
--- `lines::text::put_decimal`, which calls itself, meets its contract. The measure is the number.
+-- `text::put_decimal`, which calls itself, meets its contract. The measure is the number.
 -- Assumes nothing.
 use Prim.Native.Nat.{ℕ, _<_}
 use borrow.Fn.Kinds.{In}
 use borrow.Fn.PlainCycle.{Measures, is, falls, and}
 use borrow.Author.Needs.{needs}
-use Rattle.lines.proofs.Texts.{one-room, one-put, tenth-room, last-room, last-put}
+use Rattle.text.proofs.Texts.{one-room, one-put, tenth-room, last-room, last-put}
 use native.Mathlib.Omega.{arith}
 use lib.ListN.{length-set}
-use Rattle.lines.proofs.text.put_decimal.Reads as put-decimal
-use Rattle.lines.proofs.text.put_decimal.Kinds as put-decimal-kinds
-use Rattle.lines.proofs.text.+put_decimal.Lts-put_decimal as lts
-use Rattle.lines.proofs.text.+put_decimal.{statement}
-use Rattle.lines.proofs.text.+put_decimal.Tie.{close}
+use Rattle.text.proofs.put_decimal.Reads as put-decimal
+use Rattle.text.proofs.put_decimal.Kinds as put-decimal-kinds
+use Rattle.text.proofs.+put_decimal.Lts-put_decimal as lts
+use Rattle.text.proofs.+put_decimal.{statement}
+use Rattle.text.proofs.+put_decimal.Tie.{close}
 
 abbrev μ : Measures 1 put-decimal-kinds.ps ℕ
 μ κs a = a .0

@@ -1,15 +1,15 @@
--- `lines::text::put_bytes` meets its contract: what is written, and the bytes of the digits that are left, are all the bytes.
+-- `text::put_bytes` meets its contract: what is written, and the bytes of the digits that are left, are all the bytes.
 -- Assumes nothing.
 use Prim.Native.Nat.{_+_, _-_, _≤_}
 use lib.ListN.{length, drop, getD}
 use Rattle.put.proofs.Written.{Written, none, sum}
-use Rattle.lines.proofs.Texts.{value-most, pair, pairs-end}
-use Rattle.lines.proofs.Pieces.{stored}
-use Rattle.lines.specs.Text.{same, bytesIn}
+use Rattle.text.proofs.Texts.{value-most, pair, pairs-end}
+use Rattle.text.proofs.Pieces.{stored}
+use Rattle.text.specs.Text.{bytesIn}
 use borrow.Author.Needs.{needs}
 use native.Mathlib.Omega.{arith}
-use Rattle.lines.proofs.text.put_bytes.Statement.{statement}
-use Rattle.lines.proofs.text.put_bytes.Tie as tie
+use Rattle.text.proofs.put_bytes.Statement.{statement}
+use Rattle.text.proofs.put_bytes.Tie as tie
 
 abbrev Inv-loop : tie.InvT-loop
 Inv-loop digits out₀ i₀ at₀ out i at = (i ≤ length digits) × Written (bytesIn digits) (bytesIn (drop i digits)) out₀ out at

@@ -1,15 +1,15 @@
--- `lines::text::put_hex` meets its contract: what is written, and the digits of the bytes that are left, are all the digits.
+-- `text::put_hex` meets its contract: what is written, and the digits of the bytes that are left, are all the digits.
 -- Assumes nothing.
 use Prim.Native.Nat.{_-_, _≤_}
 use lib.ListN.{length, drop}
 use Rattle.put.proofs.Written.{Written, none, sum}
-use Rattle.lines.proofs.Texts.{high, hex-end}
-use Rattle.lines.proofs.Pieces.{one-next, stored}
-use Rattle.lines.specs.Text.{same, hexOf}
+use Rattle.text.proofs.Texts.{high, hex-end}
+use Rattle.text.proofs.Pieces.{one-next, stored}
+use Rattle.text.specs.Text.{hexOf}
 use borrow.Author.Needs.{needs}
 use native.Mathlib.Omega.{arith}
-use Rattle.lines.proofs.text.put_hex.Statement.{statement}
-use Rattle.lines.proofs.text.put_hex.Tie as tie
+use Rattle.text.proofs.put_hex.Statement.{statement}
+use Rattle.text.proofs.put_hex.Tie as tie
 
 abbrev Inv-loop : tie.InvT-loop
 Inv-loop bytes out₀ i₀ at₀ out i at = (i ≤ length bytes) × Written (hexOf bytes) (hexOf (drop i bytes)) out₀ out at

@@ -1,14 +1,14 @@
--- `lines::text::is_same` meets its contract: what is left to compare gives the answer of the whole.
+-- `text::is_same` meets its contract: what is left to compare gives the answer of the whole.
 -- Assumes nothing.
 use mathlib.Core.Path.{_≡_, refl, sym, _∙_}
 use Prim.Native.Nat.{_-_}
 use lib.ListN.{length, drop}
-use Rattle.lines.proofs.Texts.{unlike, differs, agrees, compared}
-use Rattle.lines.specs.Text.{same}
+use Rattle.text.proofs.Texts.{unlike, differs, agrees, compared}
+use Rattle.text.specs.Text.{same}
 use borrow.Author.Needs.{needs}
 use native.Mathlib.Omega.{arith}
-use Rattle.lines.proofs.text.is_same.Statement.{statement}
-use Rattle.lines.proofs.text.is_same.Tie as tie
+use Rattle.text.proofs.is_same.Statement.{statement}
+use Rattle.text.proofs.is_same.Tie as tie
 
 abbrev Inv-loop : tie.InvT-loop
 Inv-loop a b i₀ i = (length a ≡ length b) × (same (drop i a) (drop i b) ≡ same a b)

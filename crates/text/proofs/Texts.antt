@@ -2,7 +2,7 @@
 -- Assumes nothing.
 use mathlib.Core.Path.{_≡_, refl, sym, ap, _∙_}
 use mathlib.Core.Logic.{_⊎_, inl, inr, ⊎-elim}
-use mathlib.Core.Bool.{Bool, true, false, and-false}
+use mathlib.Core.Bool.{Bool, true, false, and-false, and-eq-true-iff}
 use mathlib.Core.List.{List, [], _∷_, _++_}
 use Prim.Native.Nat.{ℕ, zero, suc, _+_, _-_, _*_, _/_, _%_, _^_, _≤_, _<_}
 use native.Mathlib.Nat.{pow-succ'}
@@ -14,9 +14,8 @@ use lib.Dec.{leb, ltb}
 use borrow.Author.Tests.{eq-eqb, ne-eqb, leb-true, lt-ltb, le-ltb, ltb-true, ltb-false}
 use Rattle.put.specs.Put.{Put}
 use Rattle.put.proofs.Written.{Written, Next, whole}
-use Rattle.rights.proofs.Cases.{if-one, both}
-use Rattle.lines.proofs.Pieces.{put-one, put-last}
-use Rattle.lines.specs.Text.{same, hexDigit, hexOf, isFigure, isLetter, isDigit, allDigits, valueOf, bytesIn, decimal, decimalOf}
+use Rattle.text.proofs.Pieces.{put-one, put-last}
+use Rattle.text.specs.Text.{same, hexDigit, hexOf, isFigure, isLetter, isDigit, allDigits, valueOf, bytesIn, decimal, decimalOf}
 
 pub less-or-not : (a b : ℕ) → (a < b) ⊎ (b ≤ a)
 less-or-not a b = go (ltb a b) refl
@@ -67,20 +66,22 @@ module _ (i : ℕ) (s : List ℕ) where
 
 pub figure-range : (d : ℕ) → isFigure d ≡ true → (0x30 ≤ d) × (d ≤ 0x39)
 figure-range d h =
-    let e = both (leb 0x30 d) (leb d 0x39) h in
+    let e = and-eq-true-iff (leb 0x30 d) (leb d 0x39) .0 h in
     (leb-true 0x30 d (e .0), leb-true d 0x39 (e .1))
 
 pub letter-range : (d : ℕ) → isLetter d ≡ true → (0x41 ≤ d) × (d ≤ 0x46)
 letter-range d h =
-    let e = both (leb 0x41 d) (leb d 0x46) h in
+    let e = and-eq-true-iff (leb 0x41 d) (leb d 0x46) .0 h in
     (leb-true 0x41 d (e .0), leb-true d 0x46 (e .1))
 
 pub value-most : (d : ℕ) → valueOf d ≤ 15
 unfolding valueOf
-value-most d =
-    if-one (λ (n : ℕ). n ≤ 15) (isFigure d)
-    (λ e. omega (arith, figure-range d e .1))
-    (λ e. if-one (λ (n : ℕ). n ≤ 15) (isLetter d) (λ f. omega (arith, letter-range d f .1)) (λ f. omega arith))
+value-most d = go (isFigure d) (isLetter d) refl refl
+  where
+    go : (t u : Bool) → isFigure d ≡ t → isLetter d ≡ u → valueOf d ≤ 15
+    go true u e f = rw e (omega (arith, figure-range d e .1))
+    go false true e f = rw (e, f) (omega (arith, letter-range d f .1))
+    go false false e f = rw (e, f) (omega arith)
 
 -- ---- pairs of digits
 
@@ -125,13 +126,6 @@ module _ {L out₀ out : List ℕ} {at : ℕ} (i : ℕ) (s : List ℕ) (w : Writ
 
 -- ---- decimal digits
 
-pub decimal-length : (k n : ℕ) → length (decimal k n) ≤ k + 1
-unfolding decimal
-decimal-length zero n = omega arith
-decimal-length (suc k) n =
-    if-one (λ (l : List ℕ). length l ≤ suc k + 1) (ltb n 10) (λ e. omega arith)
-    (λ e. simp length-append (omega (arith, decimal-length k (n / 10))))
-
 pub one-digit : (k n : ℕ) → n < 10 → decimal k n ≡ (0x30 + n) ∷ []
 unfolding decimal
 one-digit zero n h = refl
@@ -140,6 +134,15 @@ one-digit (suc k) n h = rw (lt-ltb n 10 h)
 pub more-digits : (k n : ℕ) → 10 ≤ n → decimal (suc k) n ≡ decimal k (n / 10) ++ ((0x30 + n % 10) ∷ [])
 unfolding decimal
 more-digits k n h = rw (le-ltb n 10 h)
+
+pub decimal-length : (k n : ℕ) → length (decimal k n) ≤ k + 1
+unfolding decimal
+decimal-length zero n = omega arith
+decimal-length (suc k) n =
+    ⊎-elim
+    (λ l. rw (one-digit (suc k) n l) (omega arith))
+    (λ g. rw (more-digits k n g) (simp length-append (omega (arith, decimal-length k (n / 10)))))
+    (less-or-not n 10)
 
 tenth : (n b : ℕ) → n < 10 * b → n / 10 < b
 tenth n b h = omega arith

@@ -1,12 +1,12 @@
--- `lines::text::value` meets its contract: the subtractions do not go below 0, since the byte is a digit.
+-- `text::value` meets its contract: the subtractions do not go below 0, since the byte is a digit.
 -- Assumes nothing.
 use mathlib.Core.Path.{sym, _∙_}
-use Rattle.lines.proofs.Texts.{figure-range, letter-range}
-use Rattle.lines.specs.Text.{valueOf}
+use Rattle.text.proofs.Texts.{figure-range, letter-range}
+use Rattle.text.specs.Text.{valueOf}
 use borrow.Author.Needs.{needs}
 use native.Mathlib.Omega.{arith}
-use Rattle.lines.proofs.text.value.Statement.{statement}
-use Rattle.lines.proofs.text.value.Tie as tie
+use Rattle.text.proofs.value.Statement.{statement}
+use Rattle.text.proofs.value.Tie as tie
 
 pub value-spec : {M : Type 1} → statement M
 unfolding valueOf

@@ -1,14 +1,14 @@
--- `lines::text::all_digits` meets its contract: what is left to look at gives the answer of the whole.
+-- `text::all_digits` meets its contract: what is left to look at gives the answer of the whole.
 -- Assumes nothing.
 use mathlib.Core.Path.{_≡_, refl, sym, _∙_}
 use Prim.Native.Nat.{_-_}
 use lib.ListN.{length, drop}
 use borrow.Author.Tests.{not-true, not-false}
-use Rattle.lines.proofs.Texts.{no-digit, a-digit, no-more}
-use Rattle.lines.specs.Text.{allDigits}
+use Rattle.text.proofs.Texts.{no-digit, a-digit, no-more}
+use Rattle.text.specs.Text.{allDigits}
 use borrow.Author.Needs.{needs}
-use Rattle.lines.proofs.text.all_digits.Statement.{statement}
-use Rattle.lines.proofs.text.all_digits.Tie as tie
+use Rattle.text.proofs.all_digits.Statement.{statement}
+use Rattle.text.proofs.all_digits.Tie as tie
 
 abbrev Inv-loop : tie.InvT-loop
 Inv-loop s i₀ i = allDigits (drop i s) ≡ allDigits s

@@ -1,8 +1,8 @@
--- `lines::text::is_digit` meets its contract.
+-- `text::is_digit` meets its contract.
 -- Assumes nothing.
 use borrow.Author.Needs.{needs}
-use Rattle.lines.proofs.text.is_digit.Statement.{statement}
-use Rattle.lines.proofs.text.is_digit.Tie as tie
+use Rattle.text.proofs.is_digit.Statement.{statement}
+use Rattle.text.proofs.is_digit.Tie as tie
 
 pub is-digit-spec : {M : Type 1} → statement M
 is-digit-spec =

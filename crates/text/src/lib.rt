@@ -1,10 +1,9 @@
-// Bytes as text: bytes in hex, numbers in decimal, and an output line made of both.
+// Bytes as text: two texts compared, bytes in hex and back, numbers in decimal. It knows no tag.
 ghost use mathlib.Core.Path.{_≡_};
 ghost use Prim.Native.Nat.{_≤_, _<_};
 ghost use lib.ListN.{length};
 ghost use Rattle.put.specs.Put.{Put};
-ghost use Rattle.lines.specs.Text.{same, hexDigit, hexOf, isFigure, isLetter, isDigit, allDigits, valueOf, bytesIn, decimalOf};
-ghost use Rattle.lines.specs.Output.{answerText, textOf};
+ghost use Rattle.text.specs.Text.{same, hexDigit, hexOf, isFigure, isLetter, isDigit, allDigits, valueOf, bytesIn, decimalOf};
 
 // Two texts are the same, byte by byte.
 pub fn is_same(a: &[u8], b: &[u8]) -> bool
@@ -23,7 +22,8 @@ pub fn is_same(a: &[u8], b: &[u8]) -> bool
     true
 }
 
-fn is_figure(d: u8) -> bool
+// A digit of a number in decimal.
+pub fn is_figure(d: u8) -> bool
     ensures { λ r. ⌜ r ≡ isFigure d ⌝ }
 {
     (0x30 <= d) & (d <= 0x39)
@@ -119,30 +119,5 @@ pub fn put_decimal(n: u64, out: &mut [u8]) -> usize
     }
     let at = put_decimal(n / 10, out);
     out[at] = 0x30 + (n % 10) as u8;
-    at + 1
-}
-
-// The bytes in hex, or a mark where there are none.
-fn put_answer(mark: u8, answer: &[u8], out: &mut [u8]) -> usize
-    requires { ⌜ length (answerText mark (now answer)) ≤ length (now out) ⌝ }
-    ensures { λ r. ⌜ Put (answerText mark (now (answer .entry))) (now (out .entry)) (now (out .exit)) r ⌝ }
-{
-    if answer.len() == 0 {
-        out[0] = mark;
-        return 1;
-    }
-    put_hex(answer, out)
-}
-
-// An output line: "line number from 1 in decimal, a space, then the whole answer in hex", or a mark, and a newline.
-pub fn put_line(number: u64, mark: u8, answer: &[u8], out: &mut [u8]) -> usize
-    requires { ⌜ length (textOf number mark (now answer)) ≤ length (now out) ⌝ }
-    ensures { λ r. ⌜ Put (textOf number mark (now (answer .entry))) (now (out .entry)) (now (out .exit)) r ⌝ }
-{
-    let mut at = put_decimal(number, out);
-    out[at] = 0x20;
-    at += 1;
-    at += put_answer(mark, answer, &mut out[at..]);
-    out[at] = 0x0A;
     at + 1
 }
