@@ -1,6 +1,6 @@
 // The calls of a host: event, load and save, with the numbers 1 to 5 of document 01. Any record, any bytes and any buffers are taken, and
 // each call ends; no caller need test anything first.
-mod rules; // rules.rt: the record rules
+pub mod rules; // rules.rt: the record rules
 
 use image::reading;
 use image::rules::header_right;
@@ -18,14 +18,14 @@ ghost use Rattle.tag.specs.Step.{eventOf};
 ghost use Rattle.tag.specs.Host.{outcome, EventGives, LoadGives, SaveGives};
 
 // "user memory lent is not 2,048 or 8,192 bytes"
-fn is_memory(size: usize) -> bool
+pub fn is_memory(size: usize) -> bool
     ensures { λ r. ⌜ r ≡ (eqb size 2048 || eqb size 8192) ⌝ }
 {
     (size == 2048) | (size == 8192)
 }
 
 // "or does not fit the image's length"
-fn fits_image(size: usize, length: usize) -> bool
+pub fn fits_image(size: usize, length: usize) -> bool
     ensures { λ r. ⌜ r ≡ ((eqb size 2048 || eqb size 8192) && eqb length (64 + size)) ⌝ }
 {
     if !is_memory(size) {
@@ -35,14 +35,14 @@ fn fits_image(size: usize, length: usize) -> bool
 }
 
 // "image is not 2,112 or 8,256 bytes"
-fn is_image(length: usize) -> bool
+pub fn is_image(length: usize) -> bool
     ensures { λ r. ⌜ r ≡ (eqb length 2112 || eqb length 8256) ⌝ }
 {
     (length == 2112) | (length == 8256)
 }
 
 // "E is 63 or 255."
-fn last_end(size: usize) -> u8
+pub fn last_end(size: usize) -> u8
     ensures { λ r. ⌜ r ≡ (if eqb size 2048 then 63 else 255) ⌝ }
 {
     if size == 2048 {

@@ -34,14 +34,14 @@ fn mark_right(image: &[u8]) -> bool
 }
 
 // "11 locks (.. others 0)"
-fn locks_right(image: &[u8]) -> bool
+pub fn locks_right(image: &[u8]) -> bool
     ensures { λ r. ⌜ r ≡ lockRule (now (image .entry)) ⌝ }
 {
     byte_at(image, 11) <= 0x1F
 }
 
 // "51 to 63 zero"
-fn reserved_right(image: &[u8]) -> bool
+pub fn reserved_right(image: &[u8]) -> bool
     ensures { λ r. ⌜ r ≡ reservedRule (now (image .entry)) ⌝ }
 {
     let mut i: usize = 51;

@@ -11,7 +11,7 @@ ghost use Rattle.put.specs.Put.{Put};
 ghost use Rattle.put.specs.Number.{bytesOf};
 ghost use Rattle.tag.specs.Image.{markOf, oneIf, lockByte, registersOf, passwordBytes, headerOf, imageOf};
 
-fn one_if(set: bool) -> u8
+pub fn one_if(set: bool) -> u8
     ensures { λ r. ⌜ (r ≡ oneIf set) × (r ≤ 1) ⌝ }
 {
     if set {

@@ -1,0 +1,135 @@
+// The C boundary: the calls of a host over bytes alone, so that the bench's C host links the proved tag. The record is 72 bytes that the
+// caller keeps; any bytes are taken, and those that are no record are refused. `include/uistermo.h` says the same in C.
+mod bytes; // bytes.rt: the record as 72 bytes
+
+use bytes::is_record;
+use bytes::read_record;
+use bytes::write_record;
+use host::fits_image;
+use host::is_image;
+use host::is_memory;
+use host::last_end;
+use image::reading::factory;
+use record::Kind;
+use record::Refusal;
+ghost use mathlib.Core.Path.{_≡_};
+ghost use Rattle.tag.specs.Host.{numberOf};
+ghost use Rattle.cabi.specs.Calls.{resultOf, kindIn, EventLeaves, LoadLeaves, SaveLeaves, FactoryLeaves};
+
+// 01's numbers, 0 for none
+fn number(r: Refusal) -> u64
+    ensures { λ n. ⌜ n ≡ numberOf r ⌝ }
+{
+    match r {
+        Refusal::None => 0,
+        Refusal::Memory => 1,
+        Refusal::Room => 2,
+        Refusal::Record => 3,
+        Refusal::Image => 4,
+        Refusal::Header => 5,
+    }
+}
+
+// "refusal number times 2^32 plus length", which is 0 where a call is refused
+fn refused(r: Refusal) -> u64
+    ensures { λ n. ⌜ n ≡ resultOf r 0 ⌝ }
+{
+    number(r) * 0x1_0000_0000
+}
+
+// "Kinds: 0 on, 1 off, 2 end of frame, 3 request"
+fn kind_in(k: u32) -> Kind
+    ensures { λ r. ⌜ r ≡ kindIn k ⌝ }
+{
+    if k == 0 {
+        return Kind::FieldOn;
+    }
+    if k == 1 {
+        return Kind::FieldOff;
+    }
+    if k == 2 {
+        return Kind::EndOfFrame;
+    }
+    Kind::Request
+}
+
+// An event. "any other kind is no event: after checks 1 to 3, silence and nothing changed"
+#[no_mangle]
+pub extern "C" fn uistermo_event(
+    bytes: &mut [u8; 72],
+    memory: &mut [u8],
+    room: &mut [u8],
+    kind: u32,
+    frame: &[u8],
+) -> u64
+    ensures { λ n. ⌜ EventLeaves kind (now (frame .entry)) (now (bytes .entry)) (now (memory .entry)) (now (room .entry)) (now (bytes .exit)) (now (memory .exit)) (now (room .exit)) n ⌝ }
+{
+    let size = memory.len();
+    if !is_memory(size) {
+        return refused(Refusal::Memory);
+    }
+    if room.len() < 10243 {
+        return refused(Refusal::Room);
+    }
+    if !is_record(bytes, size, last_end(size)) {
+        return refused(Refusal::Record);
+    }
+    if 3 < kind {
+        return 0;
+    }
+    let o = host::event(read_record(bytes), kind_in(kind), frame, memory, room);
+    let tag = o.tag;
+    write_record(tag, size, bytes);
+    o.length as u64
+}
+
+// "LOAD does not look at them", the bytes that were there
+#[no_mangle]
+pub extern "C" fn uistermo_load(bytes: &mut [u8; 72], image: &[u8], memory: &mut [u8]) -> u64
+    ensures { λ n. ⌜ LoadLeaves (now (image .entry)) (now (bytes .entry)) (now (memory .entry)) (now (bytes .exit)) (now (memory .exit)) n ⌝ }
+{
+    let size = memory.len();
+    let o = host::load(read_record(bytes), image, memory);
+    let refusal = o.refusal;
+    let tag = o.tag;
+    if number(refusal) != 0 {
+        return refused(refusal);
+    }
+    write_record(tag, size, bytes);
+    0
+}
+
+// "SAVE 4, 1 or 3 in 01's order"
+#[no_mangle]
+pub extern "C" fn uistermo_save(bytes: &[u8; 72], memory: &[u8], image: &mut [u8]) -> u64
+    ensures { λ n. ⌜ SaveLeaves (now (bytes .entry)) (now (memory .entry)) (now (image .entry)) (now (image .exit)) n ⌝ }
+{
+    let size = memory.len();
+    if !is_image(image.len()) {
+        return refused(Refusal::Image);
+    }
+    if !fits_image(size, image.len()) {
+        return refused(Refusal::Memory);
+    }
+    if !is_record(bytes, size, last_end(size)) {
+        return refused(Refusal::Record);
+    }
+    let o = host::save(read_record(bytes), memory, image);
+    o.length as u64
+}
+
+// "1 where a record was made, 0 and nothing changed for a size mark other than 1 and 2"
+#[no_mangle]
+pub extern "C" fn uistermo_factory(mark: u32, uid: u64, bytes: &mut [u8; 72]) -> u32
+    ensures { λ n. ⌜ FactoryLeaves mark uid (now (bytes .entry)) (now (bytes .exit)) n ⌝ }
+{
+    if mark == 1 {
+        write_record(factory(63, uid), 2048, bytes);
+        return 1;
+    }
+    if mark == 2 {
+        write_record(factory(255, uid), 8192, bytes);
+        return 1;
+    }
+    0
+}
