@@ -17,10 +17,10 @@ use Rattle.record.specs.declared.Refusal.{Refusal}
 use Rattle.record.specs.declared.Refusal.the-variants as refusal
 use Rattle.record.specs.declared.Outcome.{Outcome}
 use Rattle.tag.specs.Rules.{blocksOf, sound}
-use Rattle.tag.specs.Step.{Event, eventOf}
+use Rattle.tag.specs.Step.{eventOf}
 use Rattle.tag.specs.Image.{headerOf}
-use Rattle.tag.specs.Host.{numberOf, isMemory, fitsImage, isImage, eventDone, eventGiven, EventGives, loadGiven, LoadGives, saveGiven, SaveGives}
-use Rattle.cabi.specs.Bytes.{recordIn, lastingRule, valueRule, unusedRule, recordRule, isRecord, passingOf, recordOf}
+use Rattle.tag.specs.Host.{numberOf, isMemory, fitsImage, isImage, eventDone, eventGiven, EventGives, LoadGives, saveGiven, SaveGives}
+use Rattle.cabi.specs.Bytes.{recordLength, recordIn, lastingRule, valueRule, unusedRule, recordRule, isRecord, passingOf, recordOf}
 use Rattle.cabi.specs.Calls.{resultOf, kindIn, EventLeft, eventLeft, EventLeaves, unlessRefused, loadLeft, LoadLeaves, SaveLeft, saveLeft, SaveLeaves, FactoryLeft, factoryLeft, FactoryLeaves}
 
 pub number-most : (r : Refusal) → numberOf r ≤ 5
@@ -37,7 +37,7 @@ unfolding recordRule
 record-sound m r h = both (lastingRule (length m) r && (valueRule r && unusedRule r)) (sound (blocksOf m) (recordIn r)) h .1
 
 -- the header was put at the start, and the passing parts after it
-pub record-put : (size : ℕ) (t : Tag) {n k : ℕ} {after xs ys zs : List ℕ} → after ≡ passingOf t → Put (headerOf size t) xs ys n → Put after (take (length ys - 64) (drop 64 ys)) zs k → length xs ≡ 72 → take 64 ys ++ (zs ++ drop (length ys - 64) (drop 64 ys)) ≡ recordOf size t
+pub record-put : (size : ℕ) (t : Tag) {n k : ℕ} {after xs ys zs : List ℕ} → after ≡ passingOf t → Put (headerOf size t) xs ys n → Put after (take (length ys - 64) (drop 64 ys)) zs k → length xs ≡ recordLength → take 64 ys ++ (zs ++ drop (length ys - 64) (drop 64 ys)) ≡ recordOf size t
 unfolding recordOf headerOf bytesOf
 record-put size t {n} {k} {after} {xs} {ys} {zs} e p q l =
     let z : Put (passingOf t) (take (length ys - 64) (drop 64 ys)) zs k = rw (← e) q in

@@ -22,7 +22,7 @@ ghost use Prim.Native.Nat.{_+_, _*_};
 ghost use lib.ListN.{length};
 ghost use Rattle.record.specs.declared.Held.the-variants.{Answer};
 ghost use Rattle.tag.specs.Image.{tagIn};
-ghost use Rattle.cabi.specs.Bytes.{stateIn, sessionIn, roundIn, heldIn, frontIn, vaultIn, recordIn, lastingRule, valueRule, unusedRule, recordRule, stateByte, sessionByte, openByte, slotByte, maskByte, heldByte, codeByte, passingOf, recordOf};
+ghost use Rattle.cabi.specs.Bytes.{recordLength, stateIn, sessionIn, roundIn, heldIn, frontIn, vaultIn, recordIn, lastingRule, valueRule, unusedRule, recordRule, stateByte, sessionByte, openByte, slotByte, maskByte, heldByte, codeByte, passingOf, recordOf};
 
 // "65 state (0 Ready, 1 Quiet, 2 Selected)"
 fn state_in(b: u8) -> State
@@ -264,9 +264,9 @@ fn passing(t: Tag) -> [u8; 8]
     ]
 }
 
-// The record of a tag beside a memory of so many bytes goes into all 72 bytes.
+// The record of a tag beside a memory of so many bytes fills the bytes.
 pub fn write_record(t: Tag, size: usize, bytes: &mut [u8])
-    requires { ⌜ length (now bytes) ≡ 72 ⌝ }
+    requires { ⌜ length (now bytes) ≡ recordLength ⌝ }
     ensures { λ _. ⌜ now (bytes .exit) ≡ recordOf size t ⌝ }
 {
     let after = passing(t);

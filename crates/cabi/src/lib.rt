@@ -16,6 +16,9 @@ ghost use mathlib.Core.Path.{_≡_};
 ghost use Rattle.tag.specs.Host.{numberOf};
 ghost use Rattle.cabi.specs.Calls.{resultOf, kindIn, EventLeaves, LoadLeaves, SaveLeaves, FactoryLeaves};
 
+// How many bytes a record has: `recordLength` of the definition, UISTERMO_RECORD of the header.
+pub const RECORD: usize = 72;
+
 // 01's numbers, 0 for none
 fn number(r: Refusal) -> u64
     ensures { λ n. ⌜ n ≡ numberOf r ⌝ }
@@ -56,7 +59,7 @@ fn kind_in(k: u32) -> Kind
 // An event. "any other kind is no event: after checks 1 to 3, silence and nothing changed"
 #[no_mangle]
 pub extern "C" fn uistermo_event(
-    bytes: &mut [u8; 72],
+    bytes: &mut [u8; RECORD],
     memory: &mut [u8],
     room: &mut [u8],
     kind: u32,
@@ -78,14 +81,14 @@ pub extern "C" fn uistermo_event(
         return 0;
     }
     let o = host::event(read_record(bytes), kind_in(kind), frame, memory, room);
-    let tag = o.tag;
-    write_record(tag, size, bytes);
+    let next = o.tag;
+    write_record(next, size, bytes);
     o.length as u64
 }
 
 // "LOAD does not look at them", the bytes that were there
 #[no_mangle]
-pub extern "C" fn uistermo_load(bytes: &mut [u8; 72], image: &[u8], memory: &mut [u8]) -> u64
+pub extern "C" fn uistermo_load(bytes: &mut [u8; RECORD], image: &[u8], memory: &mut [u8]) -> u64
     ensures { λ n. ⌜ LoadLeaves (now (image .entry)) (now (bytes .entry)) (now (memory .entry)) (now (bytes .exit)) (now (memory .exit)) n ⌝ }
 {
     let size = memory.len();
@@ -101,7 +104,7 @@ pub extern "C" fn uistermo_load(bytes: &mut [u8; 72], image: &[u8], memory: &mut
 
 // "SAVE 4, 1 or 3 in 01's order"
 #[no_mangle]
-pub extern "C" fn uistermo_save(bytes: &[u8; 72], memory: &[u8], image: &mut [u8]) -> u64
+pub extern "C" fn uistermo_save(bytes: &[u8; RECORD], memory: &[u8], image: &mut [u8]) -> u64
     ensures { λ n. ⌜ SaveLeaves (now (bytes .entry)) (now (memory .entry)) (now (image .entry)) (now (image .exit)) n ⌝ }
 {
     let size = memory.len();
@@ -120,7 +123,7 @@ pub extern "C" fn uistermo_save(bytes: &[u8; 72], memory: &[u8], image: &mut [u8
 
 // "1 where a record was made, 0 and nothing changed for a size mark other than 1 and 2"
 #[no_mangle]
-pub extern "C" fn uistermo_factory(mark: u32, uid: u64, bytes: &mut [u8; 72]) -> u32
+pub extern "C" fn uistermo_factory(mark: u32, uid: u64, bytes: &mut [u8; RECORD]) -> u32
     ensures { λ n. ⌜ FactoryLeaves mark uid (now (bytes .entry)) (now (bytes .exit)) n ⌝ }
 {
     if mark == 1 {
