@@ -1,52 +1,84 @@
-// The session program of document 01: standard input to standard output, in pieces and with constant memory. Each byte goes to `lines`, and each
-// output line is written when its input line is complete.
+// The session program of document 01: standard input to standard output, whatever its size, in pieces and with constant memory. Each byte goes
+// to `lines`, and each output line is written when its input line is complete.
 use lines::Progress;
+ghost use Prim.Native.Nat.{_≤_};
+ghost use lib.ListN.{length};
 
-// The first n bytes of out are written.
-fn show(out: &[u8], n: usize) {
-    if n <= out.len() {
-        io::write_all(1, &out[..n]);
-    }
+const STDIN: i32 = 0;
+
+const STDOUT: i32 = 1;
+
+// How far a run is, and whether every read and write went well.
+struct Course {
+    progress: Progress,
+    well: bool,
 }
 
-// A piece of the input.
+// The first n bytes of out are written, and it answers whether they were.
+fn show(out: &[u8], n: usize) -> bool
+    requires { ⌜ n ≤ length (now out) ⌝ }
+{
+    io::write_all(STDOUT, &out[..n])
+}
+
+// A piece of the input, to its end or to a write that fails.
 fn piece(
     start: Progress,
     bytes: &[u8],
     memory: &mut [u8; 2048],
     room: &mut [u8; 10243],
     out: &mut [u8; 20508],
-) -> Progress {
-    let mut p = start;
+) -> Course {
+    let mut progress = start;
     let mut i = 0;
     while i < bytes.len() {
-        let f = lines::feed(p, bytes[i], memory, room, out);
-        show(out, f.length);
-        p = f.progress;
+        let f = lines::feed(progress, bytes[i], memory, room, out);
+        progress = f.progress;
+        if !show(out, f.length) {
+            return Course {
+                progress,
+                well: false,
+            };
+        }
         i += 1;
     }
-    p
+    Course {
+        progress,
+        well: true,
+    }
 }
 
-// The input to its end, or to a read that fails. A proved loop has to end, so it counts its turns down from a number that no run uses up.
+// The input to its end, or to a read or write that fails. A proved loop has to end, so it counts its turns down from a number that no run
+// uses up.
 fn run(
     start: Progress,
     memory: &mut [u8; 2048],
     room: &mut [u8; 10243],
     out: &mut [u8; 20508],
-) -> Progress {
-    let mut p = start;
+) -> Course {
+    let mut progress = start;
     let mut buffer = [0u8; 4096];
-    let mut turns: u64 = 1000000000;
+    let mut turns = u64::MAX;
     while turns > 0 {
-        let n = io::read_full(0, &mut buffer);
-        if n == 0 {
-            return p;
+        let got = libc::read(STDIN, &mut buffer);
+        if got <= 0 {
+            return Course {
+                progress,
+                well: got == 0,
+            };
         }
-        p = piece(p, &buffer[..n], memory, room, out);
+        let n = io::count(got, &buffer);
+        let c = piece(progress, &buffer[..n], memory, room, out);
+        if !c.well {
+            return c;
+        }
+        progress = c.progress;
         turns -= 1;
     }
-    p
+    Course {
+        progress,
+        well: false,
+    }
 }
 
 // A last line may lack its newline.
@@ -55,11 +87,14 @@ fn last(p: Progress, memory: &mut [u8; 2048], room: &mut [u8; 10243], out: &mut 
     show(out, f.length);
 }
 
+// After a read or write that failed nothing more is read or written.
 fn main() {
-    let p = lines::start();
+    let start = lines::start();
     let mut memory = [0u8; 2048];
     let mut room = [0u8; 10243];
     let mut out = [0u8; 20508];
-    let q = run(p, &mut memory, &mut room, &mut out);
-    last(q, &mut memory, &mut room, &mut out);
+    let c = run(start, &mut memory, &mut room, &mut out);
+    if c.well {
+        last(c.progress, &mut memory, &mut room, &mut out);
+    }
 }

@@ -1,25 +1,15 @@
--- `tagrun::show` is safe and ends: what is written lies within the buffer.
+-- `tagrun::show` is safe and ends: what is written lies within out.
 -- Assumes nothing.
 use mathlib.Core.Path.{sym}
 use lib.Seq.{length-take-le}
 use borrow.Author.Needs.{needs}
 use Rattle.tagrun.proofs.show.Statement.{statement}
 use Rattle.tagrun.proofs.show.Tie as tie
-use Rattle.tagrun.proofs.show.Reads as reads
-use Rattle.tagrun.proofs.show.Lts as lts
-use Rattle.io.proofs.write_all.Reads as write-all-reads
-
-slice-aggregate-write-all : tie.Need-slice-aggregate-write-all
-slice-aggregate-write-all c = sym (length-take-le _ _ (search needs))
-
-write-all-requires : tie.Need-write-all-requires
-write-all-requires c κs = search needs
-
-returns : tie.Need-returns
-returns c = search needs
-
-returns-2 : tie.Need-returns-2
-returns-2 c = search needs
 
 pub show-spec : {M : Type 1} → statement M
-show-spec = tie.close (tie.spec slice-aggregate-write-all write-all-requires returns returns-2)
+show-spec =
+    tie.close
+    (tie.spec
+    (λ c. sym (length-take-le _ _ (search needs)))
+    (λ c κs. search needs)
+    (λ c. search needs))
