@@ -13,12 +13,19 @@ def hexed(data):
     return bytes(data).hex().upper().encode("ascii")
 
 
+def is_call(answer):
+    """Whether this answer line is that of an event, a load or a save."""
+    return answer not in ("ok", "?")
+
+
 class Bench:
     """The lines so far. The model follows them, so that the next line can know the record."""
 
     def __init__(self, dice):
         self.dice = dice
         self.lines = []
+        self.calls = 0
+        self.bytes = 0
         self.casebook = Casebook()
 
     @property
@@ -27,9 +34,12 @@ class Bench:
         return self.casebook.record
 
     def say(self, line):
-        """One line, which the model follows."""
+        """One line, which the model follows; returns its answer. Bytes are counted in and out, with newlines."""
+        answer = self.casebook.answer(line)
         self.lines.append(line)
-        self.casebook.answer(line)
+        self.calls += is_call(answer)
+        self.bytes += len(line) + len(answer) + 2
+        return answer
 
     def lend(self, size, room=LONGEST_ANSWER):
         """Memory of this size and a room that suffices."""

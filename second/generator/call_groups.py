@@ -15,9 +15,14 @@ READ_BLOCK_0 = bytes.fromhex("022000")
 IMAGE_LENGTHS = (0, 1, 64, 2048, 2111, 2113, 8192, 8255, 8257, 8300)
 
 
+def event_on(bench):
+    """One event on what stands; returns its answer."""
+    return bench.say(bench.dice.choose([b"ON", b"OFF", b"EOF", b"REQ " + hexed(with_crc(READ_BLOCK_0))]))
+
+
 def calls_on(bench, size):
     """One event and one save on what stands."""
-    bench.say(bench.dice.choose([b"ON", b"OFF", b"EOF", b"REQ " + hexed(with_crc(READ_BLOCK_0))]))
+    event_on(bench)
     bench.say(b"SAVE %d" % size.image_bytes)
 
 
@@ -39,15 +44,20 @@ def broken_records(bench, variant):
 
 
 def broken_bytes(bench, variant):
-    """Two bytes of the 72, one after the other, out of their range or at any value."""
+    """Three bytes of the 72, one at a time, out of their range or at any value; a save where the event is refused.
+
+    A save that succeeds answers a whole image, so it comes only once in twelve times.
+    """
     size = bench.dice.choose(SIZES)
     bench.lend(size)
-    for place in (2 * variant % boundary.RECORD_BYTES, (2 * variant + 1) % boundary.RECORD_BYTES):
+    for step in range(3):
+        place = (3 * variant + step) % boundary.RECORD_BYTES
         for value in (0, 1, 3, 5, 16, 61, 64, 0x80, 0xFF, bench.dice.below(256)):
             record = scenes.sound(bench.dice, size)
             record[place] = value
             bench.set_record(record)
-            calls_on(bench, size)
+            if event_on(bench).startswith("3 ") or bench.dice.one_in(12):
+                bench.say(b"SAVE %d" % size.image_bytes)
 
 
 def buffers(bench, variant):

@@ -12,7 +12,7 @@ from .frames import inventory
 KINDS = (
     commands.walk, commands.each_mode, commands.borders, commands.kept_areas, commands.passwords, commands.registers,
     commands.area_orders, commands.held_answers, commands.set_held_answers, commands.identities, commands.codes,
-    commands.lengths, commands.many_blocks, commands.walk, commands.borders,
+    commands.lengths, commands.many_blocks, commands.memory_end, commands.walk, commands.borders,
     frames.flag_bytes, frames.other_uids, frames.short_frames, frames.field_off, frames.rounds, frames.set_rounds,
     frames.inventories, frames.damaged_inventories,
     calls.broken_records, calls.broken_bytes, calls.buffers, calls.images, calls.no_forms,
@@ -24,8 +24,9 @@ START_LINES = (b"SAVE 2112", b"EOF", b"ON", b"REQ " + hexed(with_crc(inventory(0
 
 
 def casebook_lines(seed, groups):
-    """The lines of so many groups; the kinds take turns, the rare ones every fourth time."""
-    lines = list(START_LINES) if groups else []
+    """The lines of so many groups, one by one; the kinds take turns, the rare ones every fourth time."""
+    if groups:
+        yield from START_LINES
     times = dict.fromkeys(KINDS, 0)
     for group in range(groups):
         kind = KINDS[group % len(KINDS)]
@@ -34,5 +35,4 @@ def casebook_lines(seed, groups):
         bench = Bench(Dice(seed * 1000003 + group))
         kind(bench, times[kind])
         times[kind] += 1
-        lines += bench.lines
-    return lines
+        yield from bench.lines

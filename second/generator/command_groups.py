@@ -21,19 +21,32 @@ def walk(bench, variant):
 
 
 def each_mode(bench, variant):
-    """One command in every state and mode, with and without Option_flag."""
-    code = fields.LISTED[variant % len(fields.LISTED)]
+    """Two commands in every state and mode, with and without Option_flag."""
     size = bench.open_scene()
-    for state in (scenes.READY, scenes.QUIET, scenes.SELECTED):
-        for mode in (frames.PLAIN, frames.ADDRESSED, frames.SELECT_MODE, frames.ADDRESSED | frames.SELECT_MODE):
-            record = scenes.plain(bench.dice, size)
-            record[boundary.STATE] = state
-            record[boundary.SESSION] = bench.dice.below(5)
-            bench.set_record(record)
-            bench.command(code, mode, option=False)
-            bench.set_record(record)
-            bench.command(code, mode, option=True)
-            bench.say(b"EOF")
+    for step in range(2):
+        code = fields.LISTED[(variant * 2 + step) % len(fields.LISTED)]
+        for state in (scenes.READY, scenes.QUIET, scenes.SELECTED):
+            for mode in (frames.PLAIN, frames.ADDRESSED, frames.SELECT_MODE, frames.ADDRESSED | frames.SELECT_MODE):
+                record = scenes.plain(bench.dice, size)
+                record[boundary.STATE] = state
+                record[boundary.SESSION] = bench.dice.below(5)
+                bench.set_record(record)
+                bench.command(code, mode, option=False)
+                bench.set_record(record)
+                bench.command(code, mode, option=True)
+                bench.say(b"EOF")
+
+
+def memory_end(bench, variant):
+    """Two-byte commands on the last block, on the first beyond it and over the end, with and without Option_flag."""
+    size = SIZES[variant % 2]
+    bench.lend(size)
+    bench.set_record(scenes.plain(bench.dice, size))
+    for code in (0x30, 0x31, 0x32, 0x33, 0x34, 0x3C):
+        for first in (size.blocks - 1, size.blocks, bench.dice.choose([size.blocks + 1, size.blocks - 2, 0xFFFF])):
+            rest = fields.fields_for(bench.dice, bench.record, code)[2:]
+            body = first.to_bytes(2, "little") + rest
+            bench.request(frames.command(code, body, option=bench.dice.one_in(2)))
 
 
 def borders(bench, variant):
@@ -144,9 +157,9 @@ def identities(bench, variant):
 
 
 def codes(bench, variant):
-    """Sixteen codes of all 256, with fields of some length and with none."""
+    """Thirty-two codes of all 256, with fields of some length and with none."""
     bench.open_scene()
-    for code in range(variant % 16 * 16, variant % 16 * 16 + 16):
+    for code in range(variant % 8 * 32, variant % 8 * 32 + 32):
         manufacturer = bench.dice.choose([2, 2, 2, 0, 4, bench.dice.below(256)])
         mode = fields.heard_mode(bench.dice, bench.record, code)
         body = frames.command(code, bench.dice.bytes(bench.dice.below(10)), mode, fields.uid_of(bench.record),
@@ -156,14 +169,15 @@ def codes(bench, variant):
 
 
 def lengths(bench, variant):
-    """One command with every length from none to two bytes too many."""
-    code = fields.LISTED[variant % len(fields.LISTED)]
-    bench.open_scene()
-    right = fields.fields_for(bench.dice, bench.record, code)
-    for length in range(len(right) + 3):
-        cut = (right + bench.dice.bytes(2))[:length]
-        mode = fields.heard_mode(bench.dice, bench.record, code)
-        bench.request(frames.command(code, cut, mode, fields.uid_of(bench.record), bench.dice.one_in(3)))
+    """Three commands with every length from none to two bytes too many."""
+    for step in range(3):
+        code = fields.LISTED[(variant * 3 + step) % len(fields.LISTED)]
+        bench.open_scene()
+        right = fields.fields_for(bench.dice, bench.record, code)
+        for length in range(len(right) + 3):
+            cut = (right + bench.dice.bytes(2))[:length]
+            mode = fields.heard_mode(bench.dice, bench.record, code)
+            bench.request(frames.command(code, cut, mode, fields.uid_of(bench.record), bench.dice.one_in(3)))
 
 
 def many_blocks(bench, variant):

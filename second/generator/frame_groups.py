@@ -92,6 +92,7 @@ def set_rounds(bench, variant):
         slot = (5 * variant + step) % 16
         record = scenes.plain(bench.dice, size)
         record[boundary.STATE] = bench.dice.choose([scenes.READY, scenes.SELECTED])
+        record[image.UID] = bench.dice.bytes(8)
         scenes.set_round(record, slot, mask_before_slot(bench.dice, record, slot + 1))
         bench.set_record(record)
         bench.say_or_any(event)

@@ -8,15 +8,28 @@ DEFAULT_GROUPS = 2000
 DEFAULT_LINES = 10000
 
 
-def joined(lines, seed):
-    """Each line with its newline; with an odd seed the last line lacks it."""
-    stream = b"".join(line + b"\n" for line in lines)
-    return stream[:-1] if seed % 2 else stream
+def pieces(lines, seed):
+    """Each line with its newline, one by one; with an odd seed the last line lacks it."""
+    waiting = None
+    for line in lines:
+        if waiting is not None:
+            yield waiting + b"\n"
+        waiting = line
+    if waiting is not None:
+        yield waiting if seed % 2 else waiting + b"\n"
+
+
+def casebook_pieces(seed=DEFAULT_SEED, groups=DEFAULT_GROUPS):
+    return pieces(casebook_lines(seed, groups), seed)
+
+
+def tagrun_pieces(seed=DEFAULT_SEED, lines=DEFAULT_LINES):
+    return pieces(tagrun_lines(seed, lines), seed)
 
 
 def casebook_stream(seed=DEFAULT_SEED, groups=DEFAULT_GROUPS):
-    return joined(casebook_lines(seed, groups), seed)
+    return b"".join(casebook_pieces(seed, groups))
 
 
 def tagrun_stream(seed=DEFAULT_SEED, lines=DEFAULT_LINES):
-    return joined(tagrun_lines(seed, lines), seed)
+    return b"".join(tagrun_pieces(seed, lines))

@@ -67,10 +67,9 @@ def request_line(dice, record, kind):
 
 
 def tagrun_lines(seed, count):
-    """So many lines; the model follows them, so that passwords and areas are known."""
-    dice, session, lines = Dice(seed), Session(), []
+    """So many lines, one by one; the model follows them, so that passwords and areas are known."""
+    dice, session = Dice(seed), Session()
     for _ in range(count):
         line = next_line(dice, session)
         session.answer(line)
-        lines.append(line)
-    return lines
+        yield line

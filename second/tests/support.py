@@ -8,11 +8,12 @@ from tagmodel import host
 from tagmodel.crc import crc_by_bits
 from tagmodel.record import Record
 from tagmodel.sizes import SIZES
+from worked import examples
 
 FOLDER = os.path.dirname(os.path.dirname(os.path.realpath(__file__)))
 SMALL, LARGE = SIZES
 
-UID_TEXT = "F0C8D601042302E0"  # document 001, lowest byte first
+UID_TEXT = examples.UID  # document 001, lowest byte first
 UID = 0xE002230401D6C8F0
 OTHER_UID_TEXT = "F1C8D601042302E0"
 
@@ -75,14 +76,8 @@ def numbered(*blocks):
 
 def record_bytes(mark=1, ends=(63, 63, 63), protections=(0, 0, 0, 0), changes=None):
     """72 bytes by the places of CASEBOOK.md: a tag with the field off; `changes` sets bytes by place."""
-    data = bytearray(72)
-    data[0] = mark
-    data[1:9] = bytes.fromhex(UID_TEXT)
-    data[12], data[14], data[16], data[18] = protections
-    data[13], data[15], data[17] = ends
-    for place, value in (changes or {}).items():
-        data[place] = value
-    return bytes(data)
+    size = examples.SMALL._replace(mark=mark)
+    return bytes.fromhex(examples.record_text(size, ends, protections, changes=changes))
 
 
 def run_program(name, stream, *arguments):

@@ -3,11 +3,9 @@
 import unittest
 
 from tagmodel.session import Session
+from worked import SESSION_INPUT, SESSION_OUTPUT
 
 from .support import error, run_program
-
-SESSION_INPUT = b"ON\n260100\n022000\n02300002\n02B302010000000000000001\n02B302000000000000000000\n"
-SESSION_OUTPUT = b"1 -\n2 0000F0C8D601042302E064A3\n3 000000000077CF\n4 01101E06\n5 010F68EE\n6 0078F0\n"
 
 
 def answers(*lines):

@@ -1,0 +1,84 @@
+"""Holds the stored cases to the generator, to the second model and to the documents."""
+
+import os
+
+from worked import SESSION_INPUT, SESSION_OUTPUT
+from worked.examples import faults
+
+from .bench import is_call
+from .stored_cases import INPUTS, answers, unreached, worked_steps
+
+MOST_SHOWN = 5
+
+
+def read(folder, program, name):
+    """A stored file, or None where there is none."""
+    try:
+        with open(os.path.join(folder, program, name), "rb") as file:
+            return file.read()
+    except FileNotFoundError:
+        return None
+
+
+def write(folder, program):
+    """Makes the two files of a program anew."""
+    stream = INPUTS[program]()
+    os.makedirs(os.path.join(folder, program), exist_ok=True)
+    for name, contents in (("stdin", stream), ("stdout", answers(program, stream)[0])):
+        with open(os.path.join(folder, program, name), "wb") as file:
+            file.write(contents)
+
+
+def file_differences(name, found, expected):
+    """The first lines in which a stored file is not what it should be."""
+    if found == expected:
+        return []
+    ours, theirs = expected.split(b"\n"), found.split(b"\n")
+    wrong = [n for n in range(max(len(ours), len(theirs))) if ours[n:n + 1] != theirs[n:n + 1]]
+    return [f"{name} line {n + 1} is not as the second model has it" for n in wrong[:MOST_SHOWN]] + [
+        f"{name}: {len(wrong)} lines differ"]
+
+
+def worked_faults(stream, output):
+    """Whether the casebook cases begin with the worked examples, answered as the documents print."""
+    lines, answered, found = stream.split(b"\n"), output.decode("ascii", "replace").split("\n"), []
+    for n, step in enumerate(worked_steps()):
+        if lines[n:n + 1] != [step.line] or n >= len(answered):
+            found.append(f"casebook line {n + 1} is not that of the worked example")
+        else:
+            found += [f"casebook line {n + 1}, {fault}" for fault in faults(step, answered[n])]
+    return found
+
+
+def session_faults(stream, output):
+    """Whether the tagrun cases begin with the session of 01, answered as it prints."""
+    right = stream.startswith(SESSION_INPUT) and output.startswith(SESSION_OUTPUT)
+    return [] if right else ["tagrun: the first lines are not the session of document 01"]
+
+
+DOCUMENT_FAULTS = {"casebook": worked_faults, "tagrun": session_faults}
+
+
+def check(folder, program):
+    """All faults of a program's stored cases, and a line of figures."""
+    stream, output = read(folder, program, "stdin"), read(folder, program, "stdout")
+    if stream is None or output is None:
+        return [f"{program}: stdin or stdout is absent"], f"{program}: no stored cases"
+    found = file_differences(f"{program}/stdin", stream, INPUTS[program]())
+    expected, counts = answers(program, stream)
+    found += file_differences(f"{program}/stdout", output, expected)
+    found += DOCUMENT_FAULTS[program](stream, output)
+    missed = unreached(program, counts)
+    found += [f"{program}: no case reaches {name}" for name in missed]
+    return found, figures(program, stream, output, len([name for name, count in counts.items() if count]))
+
+
+def figures(program, stream, output, reached):
+    """Calls, lines, bytes and branches in one line."""
+    answered = output.decode("ascii", "replace").split("\n")[:-1]
+    if program == "tagrun":
+        calls = sum(not line.endswith("?") for line in answered)
+    else:
+        calls = sum(is_call(line) for line in answered)
+    return (f"{program}: {calls:,} calls, {len(answered):,} lines, {reached} branches reached, "
+            f"{len(stream):,} and {len(output):,} bytes")

@@ -1,0 +1,99 @@
+"""The worked examples and the stored cases: right ones pass, and each kind of fault is noticed."""
+
+import os
+import tempfile
+import unittest
+
+from generator.dice import Dice
+from generator.stored_cases import worked_steps
+from generator.stored_check import check, file_differences, session_faults, worked_faults
+from tagmodel.casebook import Casebook
+from tagmodel.crc import crc_by_bits
+from worked import EXAMPLES, SESSION_INPUT, SESSION_OUTPUT
+from worked.examples import Step, crc_text, faults
+
+from .support import run_program
+
+
+class Worked(unittest.TestCase):
+    def test_crc(self):
+        """The CRC of the examples is written apart from the model's; samples of 001 and 01, then any bytes."""
+        for data, expected in (("00", "78F0"), ("00F06B", "1167"), ("00916B", "9C1B"), ("010F", "68EE"),
+                               ("0000F0C8D601042302E0", "64A3"), ("", "0000")):
+            self.assertEqual(crc_text(data), expected)
+        dice = Dice(11)
+        for length in range(1, 60):
+            data = dice.bytes(length)
+            self.assertEqual(crc_text(data.hex()), crc_by_bits(data).to_bytes(2, "little").hex().upper())
+
+    def test_model_answers_as_printed(self):
+        book = Casebook()
+        for example in EXAMPLES:
+            for step in example.steps:
+                self.assertEqual(faults(step, book.answer(step.line)), [], (example.source, step.line[:60]))
+
+    def test_every_source_is_there(self):
+        documents = [example.source.partition(",")[0] for example in EXAMPLES]
+        self.assertEqual(sorted(set(documents)), ["001", "003", "004", "01"])
+        self.assertEqual(EXAMPLES[0].words, "Option_flag write: silence, bytes changed; EOF gives 00 78 F0.")
+
+    def test_each_difference_is_noticed(self):
+        record = "00" * 70 + "0100"
+        step = Step(b"EOF", "0078F0", record={70: 1}, memory="F078")
+        self.assertEqual(faults(step, f"0 3 0078F0 {record} F078 1234"), [])
+        for answer in (f"1 3 0078F0 {record} F078 1234", f"0 4 0078F0 {record} F078 1234",
+                       f"0 3 0078F1 {record} F078 1234", f"0 3 - {record} F078 1234",
+                       f"0 3 0078F0 {'00' * 72} F078 1234", f"0 3 0078F0 {record} F079 1234", "ok", "?", ""):
+            self.assertNotEqual(faults(step, answer), [], answer)
+        self.assertEqual(faults(Step(b"MEM 1"), "ok"), [])
+        self.assertNotEqual(faults(Step(b"MEM 1"), "?"), [])
+        self.assertNotEqual(faults(Step(b"EOF", ""), f"0 3 0078F0 {record} F078 1234"), [])
+
+
+class Checks(unittest.TestCase):
+    def test_worked_lines_and_answers(self):
+        book, steps = Casebook(), worked_steps()
+        stream = b"".join(step.line + b"\n" for step in steps)
+        output = [book.answer(step.line) for step in steps]
+        self.assertEqual(worked_faults(stream, "\n".join(output).encode("ascii")), [])
+        place = next(n for n, step in enumerate(steps) if step.answer == "0078F0")
+        output[place] = output[place].replace("0078F0", "0078F1")
+        found = worked_faults(stream, "\n".join(output).encode("ascii"))
+        self.assertEqual(len(found), 1)
+        self.assertIn(f"line {place + 1}, answer", found[0])
+        self.assertEqual(len(worked_faults(b"", b"")), len(steps))
+
+    def test_session(self):
+        self.assertEqual(session_faults(SESSION_INPUT + b"ON\n", SESSION_OUTPUT + b"7 -\n"), [])
+        self.assertNotEqual(session_faults(SESSION_INPUT, SESSION_OUTPUT.replace(b"78F0", b"78F1")), [])
+        self.assertNotEqual(session_faults(b"ON\n", b"1 -\n"), [])
+
+    def test_lines_of_a_file(self):
+        self.assertEqual(file_differences("f", b"a\nb\n", b"a\nb\n"), [])
+        for found in (b"a\nc\n", b"a\n", b"a\nb", b"a\nb\nc\n", b""):
+            self.assertNotEqual(file_differences("f", found, b"a\nb\n"), [], found)
+        self.assertIn("line 2", file_differences("f", b"a\nc\n", b"a\nb\n")[0])
+
+
+class Program(unittest.TestCase):
+    def test_absent_files(self):
+        with tempfile.TemporaryDirectory() as folder:
+            code, output = run_program("stored", b"", "--crates", folder)
+        self.assertEqual(code, 1)
+        self.assertEqual(output.count(b"is absent"), 2)
+
+    def test_written_files_pass_and_altered_ones_do_not(self):
+        with tempfile.TemporaryDirectory() as folder:
+            code, output = run_program("stored", b"", "--write", "--crates", folder)
+            self.assertEqual(code, 0, output)
+            self.assertIn(b" 0 faults", output)
+            for name, line in (("stdin", b"EOF"), ("stdout", b"9999 -")):
+                path = os.path.join(folder, "tagrun", name)
+                with open(path, "ab") as file:
+                    file.write(b"\n" + line)
+                self.assertNotEqual(check(folder, "tagrun")[0], [], name)
+
+    def test_list(self):
+        code, output = run_program("stored", b"", "--examples")
+        self.assertEqual(code, 0)
+        self.assertTrue(output.startswith(b"lines 1 to 8: 01, Bench cases\n"))

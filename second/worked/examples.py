@@ -1,0 +1,137 @@
+"""What an example is made of. Nothing here comes from the model, not even the CRC.
+
+Requests are given as the documents print them, without CRC. An answer whose CRC
+a document prints is given whole; to the others `framed` adds the CRC of 01.
+"""
+
+from typing import Mapping, NamedTuple, Optional, Tuple
+
+UID = "F0C8D601042302E0"  # 001: E002230401D6C8F0, lowest byte first
+DONE = "0078F0"  # 001 and 01: success, CRC 78 F0
+SILENCE = ""
+ON_FIELD, SESSION, HELD = 64, 66, 70  # places in the record's 72 bytes
+CONFIGURATION_SESSION = 1
+
+
+class Size(NamedTuple):
+    """One of the two tags of 01: bytes of memory, byte 0 of its image, E."""
+
+    memory: int
+    mark: int
+    last_end: int
+
+
+SMALL, LARGE = Size(2048, 1, 63), Size(8192, 2, 255)
+
+
+class Step(NamedTuple):
+    """A line and what its answer must say: `ok` if `answer` is None, else a call's answer in hex.
+
+    `record` names bytes of the 72 by their place, `memory` the CRC of the memory, high byte first.
+    """
+
+    line: bytes
+    answer: Optional[str] = None
+    number: int = 0
+    record: Mapping[int, int] = {}
+    memory: Optional[str] = None
+
+
+class Example(NamedTuple):
+    """A passage of a document, its words (of a table the rows, of a list the numbers), and how the lines try it."""
+
+    source: str
+    words: str
+    note: str
+    steps: Tuple[Step, ...]
+
+
+def crc_text(text):
+    """The CRC of bytes in hex, low byte first: polynomial 1021h (8408h reflected), lowest bit of a byte first."""
+    value = 0xFFFF
+    for byte in bytes.fromhex(text):
+        for place in range(8):
+            differs = value >> 15 != byte >> place & 1
+            value = value << 1 & 0xFFFF
+            value ^= 0x1021 if differs else 0
+    reflected = int(f"{value ^ 0xFFFF:016b}"[::-1], 2)
+    return reflected.to_bytes(2, "little").hex().upper()
+
+
+def framed(text):
+    """Bytes in hex with their CRC."""
+    return text + crc_text(text)
+
+
+def error(code):
+    """'an error is 01h, code; CRC follows'."""
+    return framed(f"01{code:02X}")
+
+
+def line(text):
+    """A line that is answered `ok`."""
+    return Step(text.encode("ascii"))
+
+
+def event(word, answer=SILENCE, **facts):
+    """ON, OFF or EOF."""
+    return Step(word.encode("ascii"), answer, **facts)
+
+
+def frame(text, answer=SILENCE, **facts):
+    """A frame as it stands."""
+    return Step(b"REQ " + text.encode("ascii"), answer, **facts)
+
+
+def request(text, answer=SILENCE, **facts):
+    """A request as a document prints it; its CRC is added."""
+    return frame(framed(text), answer, **facts)
+
+
+def record_text(size, ends=None, protections=(0, 0, 0, 0), locks=0, changes=None):
+    """A record's 72 bytes by the places of CASEBOOK.md: a tag with the field off; `changes` sets bytes by place."""
+    data = bytearray(72)
+    data[0] = size.mark
+    data[1:9] = bytes.fromhex(UID)
+    data[11] = locks
+    data[12], data[14], data[16], data[18] = protections
+    data[13], data[15], data[17] = ends or (size.last_end,) * 3
+    for place, value in (changes or {}).items():
+        data[place] = value
+    return bytes(data).hex().upper()
+
+
+def lent(size, *parts, **named):
+    """Fresh memory, a room that suffices, and a record as `record_text` makes it."""
+    return (line(f"MEM {size.memory}"), line("ROOM 10243"), line("REC " + record_text(size, *parts, **named)))
+
+
+def in_field(size, ends=None, protections=(0, 0, 0, 0), locks=0, session=0):
+    """The same with the field on and, where asked, a session open."""
+    return lent(size, ends, protections, locks, {ON_FIELD: 1, SESSION: session})
+
+
+def numbered(first, count):
+    """Contents of blocks that hold their own number, high byte first."""
+    return "".join(f"{block:08X}" for block in range(first, first + count))
+
+
+def image_text(record, memory):
+    """An image: the record's first 64 bytes, then the memory."""
+    return record[:128] + memory
+
+
+def faults(step, answer):
+    """What an answer line says otherwise than the document."""
+    if step.answer is None:
+        return [] if answer == "ok" else [f"expected ok: {answer[:80]}"]
+    parts = answer.split(" ")
+    if len(parts) != 6:
+        return [f"expected the answer of a call: {answer[:80]}"]
+    number, length, shown, record, memory, _ = parts
+    expected = {"number": (str(step.number), number), "length": (str(len(step.answer) // 2), length),
+                "answer": (step.answer or "-", shown), "memory": (step.memory or memory, memory)}
+    for place, value in step.record.items():
+        expected[f"record byte {place}"] = (f"{value:02X}", record[2 * place:2 * place + 2])
+    return [f"{name}: expected {wanted[:80]}, found {found[:80]}"
+            for name, (wanted, found) in expected.items() if wanted != found]
