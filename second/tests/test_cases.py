@@ -14,7 +14,7 @@ from .support import FOLDER, run_program
 
 class Branches(unittest.TestCase):
     def test_every_branch_is_reached(self):
-        _, counts = count_branches(seed=3, groups=900, lines=3000)
+        _, counts = count_branches(seed=4, groups=400, lines=3000)
         self.assertEqual([name for name, count in counts.items() if count == 0], [])
 
     def test_program(self):
@@ -58,19 +58,49 @@ class Generator(unittest.TestCase):
 
 
 class Compare(unittest.TestCase):
-    def compare(self, casebook, tagrun):
-        return run_program("compare", b"", "--seed", "2", "--groups", "30", "--lines", "50",
-                           "--casebook", casebook, "--tagrun", tagrun)
+    def compare(self, casebook, tagrun, *more):
+        return run_program("compare", b"", "--seed", "2", "--groups", "2", "--lines", "30",
+                           "--casebook", casebook, "--tagrun", tagrun, *more)
 
     def own(self, name):
         return f"{sys.executable} {os.path.join(FOLDER, name)}"
 
     def test_equal(self):
-        code, output = self.compare(self.own("casebook"), self.own("tagrun"))
+        code, output = self.compare(self.own("casebook"), self.own("tagrun"), "--seeds", "2..3", "--groups", "12")
         self.assertEqual(code, 0, output)
-        self.assertEqual(output.count(b" 0 differ"), 2)
+        self.assertEqual(output.count(b" 0 differences"), 5)
+        self.assertIn(b"compare: 2 x 12 groups, ", output.splitlines()[-1])
 
     def test_unequal(self):
-        self.assertEqual(self.compare(self.own("casebook"), self.own("casebook"))[0], 1)
-        self.assertEqual(self.compare(self.own("tagrun"), self.own("tagrun"))[0], 1)
-        self.assertEqual(self.compare(self.own("casebook"), "/no/such/program")[0], 1)
+        for casebook, tagrun in (("casebook", "casebook"), ("tagrun", "tagrun")):
+            code, output = self.compare(self.own(casebook), self.own(tagrun))
+            self.assertEqual(code, 1)
+            self.assertIn(b"  second model: ", output)
+
+    def test_one_byte(self):
+        """One digit of one answer is found, and named by its line and byte."""
+        code, output = self.compare(self.own("casebook"), f"sh -c '{self.own('tagrun')} | sed \"3s/^3/4/\"'")
+        self.assertEqual(code, 1)
+        self.assertIn(b"seed 2 tagrun line 3, byte 1: ", output)
+        self.assertIn(b", 1 differences, ", output.splitlines()[-1])
+
+    def test_more_less_and_failing(self):
+        """A line too many, a line too few, an answer without its newline, and an exit status are differences."""
+        for after in ("; echo", " | head -n -1", " | head -c -1", "; exit 3"):
+            code, output = self.compare(self.own("casebook"), f"sh -c '{self.own('tagrun')}{after}'")
+            self.assertEqual(code, 1, after)
+            self.assertIn(b", 1 differences, ", output.splitlines()[-1], after)
+
+    def test_no_end(self):
+        """A program that never ends is ended by the limit."""
+        code, output = self.compare("sleep 60", self.own("tagrun"), "--limit", "0.5")
+        self.assertEqual(code, 1)
+        self.assertIn(b"ended with -9", output)
+
+    def test_no_program(self):
+        code, output = self.compare(self.own("casebook"), "/no/such/program")
+        self.assertEqual(code, 1)
+        self.assertEqual(output, b"compare: there is no program /no/such/program\n")
+
+    def test_seeds(self):
+        self.assertEqual(run_program("compare", b"", "--seeds", "1-3")[0], 2)
