@@ -6,7 +6,7 @@ from worked import SESSION_INPUT, SESSION_OUTPUT
 from worked.examples import faults
 
 from .bench import is_call
-from .stored_cases import INPUTS, answers, unreached, worked_steps
+from .stored_cases import answers, unreached, worked_steps
 
 MOST_SHOWN = 5
 
@@ -20,9 +20,8 @@ def read(folder, program, name):
         return None
 
 
-def write(folder, program):
-    """Makes the two files of a program anew."""
-    stream = INPUTS[program]()
+def write(folder, program, stream):
+    """Makes the two files of a program anew from the lines of the generator."""
     os.makedirs(os.path.join(folder, program), exist_ok=True)
     for name, contents in (("stdin", stream), ("stdout", answers(program, stream)[0])):
         with open(os.path.join(folder, program, name), "wb") as file:
@@ -59,12 +58,12 @@ def session_faults(stream, output):
 DOCUMENT_FAULTS = {"casebook": worked_faults, "tagrun": session_faults}
 
 
-def check(folder, program):
-    """All faults of a program's stored cases, and a line of figures."""
+def check(folder, program, made):
+    """All faults of a program's stored cases beside the lines that the generator made, and a line of figures."""
     stream, output = read(folder, program, "stdin"), read(folder, program, "stdout")
     if stream is None or output is None:
         return [f"{program}: stdin or stdout is absent"], f"{program}: no stored cases"
-    found = file_differences(f"{program}/stdin", stream, INPUTS[program]())
+    found = file_differences(f"{program}/stdin", stream, made)
     expected, counts = answers(program, stream)
     found += file_differences(f"{program}/stdout", output, expected)
     found += DOCUMENT_FAULTS[program](stream, output)

@@ -5,8 +5,8 @@ import tempfile
 import unittest
 
 from generator.dice import Dice
-from generator.stored_cases import worked_steps
-from generator.stored_check import check, file_differences, session_faults, worked_faults
+from generator.stored_cases import tagrun_input, worked_steps
+from generator.stored_check import check, file_differences, session_faults, worked_faults, write
 from tagmodel.casebook import Casebook
 from tagmodel.crc import crc_by_bits
 from worked import EXAMPLES, SESSION_INPUT, SESSION_OUTPUT
@@ -78,20 +78,24 @@ class Checks(unittest.TestCase):
 class Program(unittest.TestCase):
     def test_absent_files(self):
         with tempfile.TemporaryDirectory() as folder:
-            code, output = run_program("stored", b"", "--crates", folder)
-        self.assertEqual(code, 1)
-        self.assertEqual(output.count(b"is absent"), 2)
+            self.assertEqual(check(folder, "casebook", b"")[0], ["casebook: stdin or stdout is absent"])
 
     def test_written_files_pass_and_altered_ones_do_not(self):
+        made = tagrun_input()
         with tempfile.TemporaryDirectory() as folder:
-            code, output = run_program("stored", b"", "--write", "--crates", folder)
-            self.assertEqual(code, 0, output)
-            self.assertIn(b" 0 faults", output)
+            write(folder, "tagrun", made)
+            self.assertEqual(check(folder, "tagrun", made)[0], [])
             for name, line in (("stdin", b"EOF"), ("stdout", b"9999 -")):
-                path = os.path.join(folder, "tagrun", name)
-                with open(path, "ab") as file:
+                with open(os.path.join(folder, "tagrun", name), "ab") as file:
                     file.write(b"\n" + line)
-                self.assertNotEqual(check(folder, "tagrun")[0], [], name)
+                self.assertNotEqual(check(folder, "tagrun", made)[0], [], name)
+
+    def test_too_few_cases(self):
+        """Cases that are right but reach too little are a fault."""
+        with tempfile.TemporaryDirectory() as folder:
+            write(folder, "tagrun", SESSION_INPUT)
+            found = check(folder, "tagrun", SESSION_INPUT)[0]
+        self.assertIn("tagrun: no case reaches tagrun.OFF", found)
 
     def test_list(self):
         code, output = run_program("stored", b"", "--examples")
