@@ -100,4 +100,4 @@ class Program(unittest.TestCase):
     def test_list(self):
         code, output = run_program("stored", b"", "--examples")
         self.assertEqual(code, 0)
-        self.assertTrue(output.startswith(b"lines 1 to 8: 01, Bench cases\n"))
+        self.assertTrue(output.startswith(b"lines 1 to 7: 01, Bench cases\n"))

@@ -1,6 +1,6 @@
 """Document 01: its session, its bench case that is not starred, and its longest answer."""
 
-from .examples import (DONE, HELD, LARGE, ON_FIELD, SMALL, Example, Step, event, framed, image_text, in_field,
+from .examples import (DONE, FIELD, HELD, LARGE, SMALL, Example, Step, event, framed, image_text, in_field,
                        record_text, request)
 
 # 'Input:' and 'Whole output:' of the session program.
@@ -12,15 +12,14 @@ HELD_SUCCESS = {HELD: 1}
 NOTHING_HELD = {HELD: 0}
 
 
-def save(memory):
-    """The image of the tag as it stands: the bytes are changed, the held answer stays."""
-    record = record_text(SMALL, changes={ON_FIELD: 1})
-    return Step(b"SAVE 2112", image_text(record, memory), record=HELD_SUCCESS)
+def save(memory, field, held):
+    """The image of a factory 16 Kbit tag with UID 0 and this memory; the passing parts stay."""
+    return Step(b"SAVE 2112", image_text(record_text(SMALL, uid="00" * 8), memory), record={FIELD: field, HELD: held})
 
 
-def held_write(size, write, read, shown=()):
+def held_write(write, read, shown=()):
     """A write with Option_flag, what is asked before its end of frame, and the block read back."""
-    return in_field(size) + (request(write + BYTES, record=HELD_SUCCESS),) + shown + (
+    return (request(write + BYTES, record=HELD_SUCCESS),) + shown + (
         event("EOF", DONE, record=NOTHING_HELD), event("EOF", record=NOTHING_HELD), request(read, framed("00" + BYTES)))
 
 
@@ -28,13 +27,15 @@ EXAMPLES = (
     Example(
         "01, Bench cases",
         "Option_flag write: silence, bytes changed; EOF gives 00 78 F0.",
-        "block 5 by 21h; SAVE shows the bytes while the answer is held, since a read would drop it",
-        held_write(SMALL, "422105", "022005", (save("00" * 20 + BYTES + "00" * 2024),))),
+        "block 5 by 21h, on the factory tag that stands at the start of casebook; SAVE shows the bytes while the answer is "
+        "held, since a read would drop it",
+        (save("00" * 2048, 0, 0), event("ON", record={FIELD: 1}))
+        + held_write("422105", "022005", (save("00" * 20 + BYTES + "00" * 2024, 1, 1),))),
     Example(
         "01, Bench cases", "Option_flag write: silence, bytes changed; EOF gives 00 78 F0.",
         "the same by 24h, 31h and 34h",
-        held_write(SMALL, "422407" + "00", "022007") + held_write(LARGE, "4231FF07", "0230FF07")
-        + held_write(LARGE, "423400010000", "02300001")),
+        in_field(SMALL) + held_write("422407" + "00", "022007")
+        + in_field(LARGE) + held_write("4231FF07", "0230FF07") + held_write("423400010000", "02300001")),
     Example(
         "01, Host calls and their numbers",
         "The longest answer is 2,048 blocks with status: 1 + 2,048 x 5 + 2 = 10,243.",

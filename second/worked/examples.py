@@ -9,7 +9,7 @@ from typing import Mapping, NamedTuple, Optional, Tuple
 UID = "F0C8D601042302E0"  # 001: E002230401D6C8F0, lowest byte first
 DONE = "0078F0"  # 001 and 01: success, CRC 78 F0
 SILENCE = ""
-ON_FIELD, SESSION, HELD = 64, 66, 70  # places in the record's 72 bytes
+FIELD, SESSION, HELD = 64, 66, 70  # places in the record's 72 bytes
 CONFIGURATION_SESSION = 1
 
 
@@ -88,11 +88,11 @@ def request(text, answer=SILENCE, **facts):
     return frame(framed(text), answer, **facts)
 
 
-def record_text(size, ends=None, protections=(0, 0, 0, 0), locks=0, changes=None):
+def record_text(size, ends=None, protections=(0, 0, 0, 0), locks=0, changes=None, uid=UID):
     """A record's 72 bytes by the places of CASEBOOK.md: a tag with the field off; `changes` sets bytes by place."""
     data = bytearray(72)
     data[0] = size.mark
-    data[1:9] = bytes.fromhex(UID)
+    data[1:9] = bytes.fromhex(uid)
     data[11] = locks
     data[12], data[14], data[16], data[18] = protections
     data[13], data[15], data[17] = ends or (size.last_end,) * 3
@@ -108,7 +108,7 @@ def lent(size, *parts, **named):
 
 def in_field(size, ends=None, protections=(0, 0, 0, 0), locks=0, session=0):
     """The same with the field on and, where asked, a session open."""
-    return lent(size, ends, protections, locks, {ON_FIELD: 1, SESSION: session})
+    return lent(size, ends, protections, locks, {FIELD: 1, SESSION: session})
 
 
 def numbered(first, count):
