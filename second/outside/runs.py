@@ -1,6 +1,7 @@
 """Runs a program to its end, or to a limit, and says how it ended."""
 
 import os
+import select
 import shlex
 import signal
 import subprocess
@@ -76,8 +77,9 @@ def run_in_pieces(command, data, sink, limit):
 
 
 def run_to_closed_pipe(command, source, limit):
-    """As `| head -c 1`: one byte is taken and the pipe closed. Returns the byte too."""
+    """As `| head -c 1`: one byte is taken and the pipe closed. Returns the byte too, or none if it does not come."""
     program = start(command, source, None, stdout=subprocess.PIPE)
-    first = os.read(program.stdout.fileno(), 1)
+    ready = select.select([program.stdout], [], [], limit)[0]
+    first = os.read(program.stdout.fileno(), 1) if ready else b""
     program.stdout.close()
     return wait(program, limit), first

@@ -43,6 +43,8 @@ class Runs(unittest.TestCase):
     def test_closed_pipe(self):
         ended, first = run_to_closed_pipe(["yes"], os.devnull, 9)
         self.assertEqual((ended.signal, first), (signal.SIGPIPE, b"y"))
+        ended, first = run_to_closed_pipe(["sleep", "60"], os.devnull, 0.2)
+        self.assertEqual((ended.late, first), (True, b""))
 
     def test_peak(self):
         small = run([sys.executable, "-c", "pass"], os.devnull, os.devnull, 9).peak
