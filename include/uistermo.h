@@ -1,0 +1,95 @@
+/*
+ * uistermo.h: a proved ST25TV16KC or ST25TV64KC tag for a host in C.
+ *
+ * Link target/staticlib/libcabi.a, which `rt staticlib cabi` proves and writes (x86-64). examples/host.c is a host, tools/build-host links it.
+ * What each call returns and leaves is proved for every input: crates/cabi/specs/Calls.antt says it, and this page says it in C.
+ *
+ * The host keeps three buffers for a tag and lends them to each call:
+ *   record   UISTERMO_RECORD bytes, made by uistermo_factory or uistermo_load and updated by each event. To the host they are closed;
+ *            crates/cabi/specs/Bytes.antt has their layout. They can be copied and kept, and hold the passwords in plain bytes.
+ *   memory   the tag's user memory. Its length alone says which size of tag it is.
+ *   room     where an answer is written, UISTERMO_ROOM bytes or more.
+ *
+ * What the host owes:
+ * - A pointer points to as many bytes as the length after it says, and record to UISTERMO_RECORD. With length 0 the pointer may be NULL.
+ * - The buffers of one call do not overlap.
+ * - No other thread touches them during the call.
+ * That is all. Any bytes, lengths and numbers are taken: what does not fit is refused, and bytes that are no record are refusal 3.
+ *
+ * The library keeps nothing between calls, allocates nothing and calls nothing outside itself. Each call ends, and may come from any thread.
+ */
+#ifndef UISTERMO_H
+#define UISTERMO_H
+
+#include <stddef.h>
+#include <stdint.h>
+
+#ifdef __cplusplus
+extern "C" {
+#endif
+
+/* The length of a record. A later version may lengthen it: write this name, not the number. */
+#define UISTERMO_RECORD 72
+
+/* The two sizes of tag: size mark, memory, image (a header and the memory). */
+#define UISTERMO_MARK_16K 1
+#define UISTERMO_MARK_64K 2
+#define UISTERMO_MEMORY_16K 2048
+#define UISTERMO_MEMORY_64K 8192
+#define UISTERMO_IMAGE_16K 2112
+#define UISTERMO_IMAGE_64K 8256
+
+/* The least room of an event, for both sizes: the longest answer, 2,048 blocks with status, is 1 + 2,048 * 5 + 2 bytes. */
+#define UISTERMO_ROOM 10243
+
+/* Kinds of events. */
+#define UISTERMO_ON 0           /* field on */
+#define UISTERMO_OFF 1          /* field off */
+#define UISTERMO_END_OF_FRAME 2 /* an end of frame: the next slot of a round, or the call for a held answer */
+#define UISTERMO_REQUEST 3      /* a frame */
+
+/* Refusals. */
+#define UISTERMO_NONE 0           /* not refused */
+#define UISTERMO_REFUSED_MEMORY 1 /* user memory lent is not 2,048 or 8,192 bytes, or does not fit the image's length */
+#define UISTERMO_REFUSED_ROOM 2   /* answer room is below 10,243 bytes */
+#define UISTERMO_REFUSED_RECORD 3 /* tag record breaks a record rule, or the bytes are no record of the memory's size */
+#define UISTERMO_REFUSED_IMAGE 4  /* image is not 2,112 or 8,256 bytes */
+#define UISTERMO_REFUSED_HEADER 5 /* image header breaks a rule, or byte 0 does not fit the image's length */
+
+/* A result is refusal number * 2^32 + length. A call that refuses has length 0 and leaves every byte of record and buffers as it was. */
+static inline uint32_t uistermo_refusal(uint64_t result) { return (uint32_t)(result >> 32); }
+static inline size_t uistermo_length(uint64_t result) { return (size_t)(result & 0xFFFFFFFF); }
+
+/*
+ * An event. The answer fills the first bytes of room, as many as the length of the result says, and the rest of room stays. Length 0 is
+ * silence. The record is the next one, also after silence; a write changes memory. A frame is the bytes on the air from the flags on, its
+ * CRC included; there is no upper limit on its length, and only UISTERMO_REQUEST looks at it.
+ * Checks 1, 2, 3 in that order. Another kind than those above is no event: after the checks, silence, and nothing is changed.
+ */
+uint64_t uistermo_event(uint8_t record[UISTERMO_RECORD], uint8_t *memory, size_t memory_length, uint8_t *room, size_t room_length,
+                        uint32_t kind, const uint8_t *frame, size_t frame_length);
+
+/*
+ * Loads an image: fills memory and makes the record, with the field off. The bytes that were in record do not matter. The length is 0.
+ * Checks 4, 1, 5 in that order.
+ */
+uint64_t uistermo_load(uint8_t record[UISTERMO_RECORD], const uint8_t *image, size_t image_length, uint8_t *memory, size_t memory_length);
+
+/*
+ * Saves an image: fills image with the lasting parts of the record (not the field, state, session, round and held answer) and the memory.
+ * The length is the image's. Checks 4, 1, 3 in that order.
+ */
+uint64_t uistermo_save(const uint8_t record[UISTERMO_RECORD], const uint8_t *memory, size_t memory_length, uint8_t *image,
+                       size_t image_length);
+
+/*
+ * Makes the record of a factory tag with the field off, for a size mark and a UID, whose lowest byte travels first. Its memory is
+ * zero bytes; the host fills them. Gives 1, or 0 for another mark than those above, and then nothing is changed.
+ */
+uint32_t uistermo_factory(uint32_t mark, uint64_t uid, uint8_t record[UISTERMO_RECORD]);
+
+#ifdef __cplusplus
+}
+#endif
+
+#endif
