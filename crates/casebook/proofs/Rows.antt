@@ -1,0 +1,31 @@
+-- A text that is written in two pieces: the first at the start of out, the second into what is lent as `&mut out[at..]`.
+-- Assumes nothing.
+use mathlib.Core.List.{List, [], _∷_, _++_, append-nil}
+use Prim.Native.Nat.{ℕ, _+_, _-_, _*_, _≤_, _<_}
+use native.Mathlib.Omega.{arith}
+use lib.ListN.{length, take, drop, length-append}
+use Rattle.put.specs.Put.{Put}
+use Rattle.put.proofs.Written.{Next, sum, room, more, whole}
+use Rattle.text.proofs.Pieces.{one-next, begun, put-within}
+
+-- a text has room where it has with what follows it
+pub first-room : (L M : List ℕ) {n : ℕ} → length (L ++ M) ≤ n → length L ≤ n
+first-room L M h = omega (arith, simp length-append at h)
+
+module _ {L xs ys : List ℕ} {at : ℕ} (M : List ℕ) (p : Put L xs ys at) (h : length (L ++ M) ≤ length xs) where
+  second : Next (L ++ M) M [] xs ys at
+  second = record { written = rw append-nil (begun M p h) }
+
+  pub second-room : length M ≤ length (take (length ys - at) (drop at ys))
+  second-room = room second
+
+  module _ {zs : List ℕ} {k : ℕ} (q : Put M (take (length ys - at) (drop at ys)) zs k) where
+    pub both-within : at + k ≤ length ys
+    both-within = omega (arith, sum second, q .count)
+
+    pub both-put : Put (L ++ M) xs (take at ys ++ (zs ++ drop (length ys - at) (drop at ys))) (at + k)
+    both-put = whole (more second q)
+
+-- one byte after what was put
+pub end-within : {L xs ys : List ℕ} {at : ℕ} (end : ℕ) → Put L xs ys at → length (L ++ (end ∷ [])) ≤ length xs → at < length ys
+end-within end p h = omega (arith, sum (one-next (begun (end ∷ []) p h)))

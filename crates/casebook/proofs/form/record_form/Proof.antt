@@ -1,0 +1,15 @@
+-- `casebook::form::record_form` meets its contract.
+-- Assumes nothing.
+use Rattle.casebook.specs.Form.{recordForm}
+use borrow.Author.Needs.{needs}
+use Rattle.casebook.proofs.form.record_form.Statement.{statement}
+use Rattle.casebook.proofs.form.record_form.Tie as tie
+
+pub record-form-spec : {M : Type 1} → statement M
+unfolding recordForm
+record-form-spec =
+    tie.close
+    (tie.spec
+    (λ c κs. search needs)
+    (λ c. rw (← c .before .is-hex .ensures, c .if1 .taken))
+    (λ c. rw (← c .before .is-hex .ensures, c .if1 .left)))

@@ -1,0 +1,14 @@
+-- `casebook::row::crc_high` meets its contract.
+-- Assumes nothing.
+use borrow.Author.Needs.{needs}
+use Rattle.casebook.proofs.row.crc_high.Statement.{statement}
+use Rattle.casebook.proofs.row.crc_high.Tie as tie
+
+pub crc-high-spec : {M : Type 1} → statement M
+crc-high-spec =
+    tie.close
+    (tie.spec
+    (λ c κs. search needs)
+    (λ c. search needs)
+    (λ c. search needs)
+    (λ c. cc))

@@ -1,0 +1,100 @@
+// The answer line of a call: "`number length answer record memory room`".
+ghost use mathlib.Core.List.{_++_};
+ghost use Prim.Native.Nat.{_≤_};
+ghost use mathlib.Core.Path.{_≡_};
+ghost use lib.ListN.{length};
+ghost use Rattle.put.specs.Put.{Put};
+ghost use Rattle.text.specs.Text.{decimalOf};
+ghost use Rattle.casebook.specs.Row.{shown, field, crcHigh, numbersText, pairText, rowText};
+
+const SPACE: u8 = 0x20;
+const NEWLINE: u8 = 0x0A;
+
+// A number in decimal, and a space.
+fn put_number(n: u64, out: &mut [u8]) -> usize
+    requires { ⌜ length (field 0x20 (decimalOf n)) ≤ length (now out) ⌝ }
+    ensures { λ r. ⌜ Put (field 0x20 (decimalOf n)) (now (out .entry)) (now (out .exit)) r ⌝ }
+{
+    let at = text::put_decimal(n, out);
+    out[at] = SPACE;
+    at + 1
+}
+
+// "in hex, or `-` where length is 0"
+fn put_shown(bytes: &[u8], out: &mut [u8]) -> usize
+    requires { ⌜ length (shown (now bytes)) ≤ length (now out) ⌝ }
+    ensures { λ r. ⌜ Put (shown (now (bytes .entry))) (now (out .entry)) (now (out .exit)) r ⌝ }
+{
+    if bytes.len() == 0 {
+        out[0] = 0x2D;
+        return 1;
+    }
+    text::put_hex(bytes, out)
+}
+
+fn put_field(bytes: &[u8], end: u8, out: &mut [u8]) -> usize
+    requires { ⌜ length (field end (shown (now bytes))) ≤ length (now out) ⌝ }
+    ensures { λ r. ⌜ Put (field end (shown (now (bytes .entry)))) (now (out .entry)) (now (out .exit)) r ⌝ }
+{
+    let at = put_shown(bytes, out);
+    out[at] = end;
+    at + 1
+}
+
+// "the CRC of all their bytes as four hex digits, high first"
+fn crc_high(bytes: &[u8]) -> [u8; 2]
+    ensures { λ r. ⌜ r ≡ crcHigh (now (bytes .entry)) ⌝ }
+{
+    let c = crc::crc(bytes);
+    [(c / 256) as u8, (c % 256) as u8]
+}
+
+fn put_numbers(number: u64, count: u64, out: &mut [u8]) -> usize
+    requires { ⌜ length (numbersText number count) ≤ length (now out) ⌝ }
+    ensures { λ r. ⌜ Put (numbersText number count) (now (out .entry)) (now (out .exit)) r ⌝ }
+{
+    let at = put_number(number, out);
+    at + put_number(count, &mut out[at..])
+}
+
+fn put_pair(a: &[u8], b: &[u8], end: u8, out: &mut [u8]) -> usize
+    requires { ⌜ length (pairText end (now a) (now b)) ≤ length (now out) ⌝ }
+    ensures { λ r. ⌜ Put (pairText end (now (a .entry)) (now (b .entry))) (now (out .entry)) (now (out .exit)) r ⌝ }
+{
+    let at = put_field(a, SPACE, out);
+    at + put_field(b, end, &mut out[at..])
+}
+
+fn put_sums(memory: &[u8], room: &[u8], out: &mut [u8]) -> usize
+    requires { ⌜ length (pairText 0x0A (crcHigh (now memory)) (crcHigh (now room))) ≤ length (now out) ⌝ }
+    ensures { λ r. ⌜ Put (pairText 0x0A (crcHigh (now (memory .entry))) (crcHigh (now (room .entry)))) (now (out .entry)) (now (out .exit)) r ⌝ }
+{
+    let first = crc_high(memory);
+    let second = crc_high(room);
+    put_pair(&first, &second, NEWLINE, out)
+}
+
+fn put_rest(answer: &[u8], tag: &[u8], memory: &[u8], room: &[u8], out: &mut [u8]) -> usize
+    requires { ⌜ length (pairText 0x20 (now answer) (now tag) ++ pairText 0x0A (crcHigh (now memory)) (crcHigh (now room))) ≤ length (now out) ⌝ }
+    ensures { λ r. ⌜ Put (pairText 0x20 (now (answer .entry)) (now (tag .entry)) ++ pairText 0x0A (crcHigh (now (memory .entry))) (crcHigh (now (room .entry)))) (now (out .entry)) (now (out .exit)) r ⌝ }
+{
+    let at = put_pair(answer, tag, SPACE, out);
+    at + put_sums(memory, room, &mut out[at..])
+}
+
+// The whole line. `tag` is the record's 72 bytes.
+pub fn put_row(
+    number: u64,
+    count: u64,
+    answer: &[u8],
+    tag: &[u8],
+    memory: &[u8],
+    room: &[u8],
+    out: &mut [u8],
+) -> usize
+    requires { ⌜ length (rowText number count (now answer) (now tag) (now memory) (now room)) ≤ length (now out) ⌝ }
+    ensures { λ r. ⌜ Put (rowText number count (now (answer .entry)) (now (tag .entry)) (now (memory .entry)) (now (room .entry))) (now (out .entry)) (now (out .exit)) r ⌝ }
+{
+    let at = put_numbers(number, count, out);
+    at + put_rest(answer, tag, memory, room, &mut out[at..])
+}
