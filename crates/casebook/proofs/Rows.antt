@@ -1,12 +1,17 @@
 -- A text that is written in two pieces: the first at the start of out, the second into what is lent as `&mut out[at..]`.
 -- Assumes nothing.
+use mathlib.Core.Path.{_≡_}
 use mathlib.Core.List.{List, [], _∷_, _++_, append-nil}
 use Prim.Native.Nat.{ℕ, _+_, _-_, _*_, _≤_, _<_}
 use native.Mathlib.Omega.{arith}
 use lib.ListN.{length, take, drop, length-append}
 use Rattle.put.specs.Put.{Put}
 use Rattle.put.proofs.Written.{Next, sum, room, more, whole}
-use Rattle.text.proofs.Pieces.{one-next, begun, put-within}
+use lib.Dec.{eqb}
+use Rattle.rights.proofs.Cases.{if-one}
+use Rattle.text.proofs.Pieces.{one-next, begun}
+use Rattle.text.proofs.Texts.{hex-length, decimal-length}
+use Rattle.casebook.specs.Row.{shown, crcHigh, numbersText, pairText, rowText}
 
 -- a text has room where it has with what follows it
 pub first-room : (L M : List ℕ) {n : ℕ} → length (L ++ M) ≤ n → length L ≤ n
@@ -29,3 +34,25 @@ module _ {L xs ys : List ℕ} {at : ℕ} (M : List ℕ) (p : Put L xs ys at) (h 
 -- one byte after what was put
 pub end-within : {L xs ys : List ℕ} {at : ℕ} (end : ℕ) → Put L xs ys at → length (L ++ (end ∷ [])) ≤ length xs → at < length ys
 end-within end p h = omega (arith, sum (one-next (begun (end ∷ []) p h)))
+
+-- ---- how long an answer line is
+
+shown-most : (bytes : List ℕ) (n : ℕ) → 1 ≤ n → length bytes ≤ n → length (shown bytes) ≤ 2 * n
+unfolding shown
+shown-most bytes n one h =
+    if-one (λ (l : List ℕ). length l ≤ 2 * n) (eqb (length bytes) 0) (λ e. omega arith) (λ e. omega (arith, hex-length bytes))
+
+-- two numbers of at most 20 figures, an answer of at most 11,000 bytes, a record, two sums, and a byte after each
+pub row-most : (number count : ℕ) (answer tag memory room : List ℕ) → length answer ≤ 11000 → length tag ≡ 72 → length (rowText number count answer tag memory room) ≤ 22198
+unfolding rowText numbersText pairText
+row-most number count answer tag memory room h e =
+    simp length-append
+    (omega (
+      arith,
+      decimal-length 19 number,
+      decimal-length 19 count,
+      shown-most answer 11000 (omega arith) h,
+      shown-most tag 72 (omega arith) (omega arith),
+      shown-most (crcHigh memory) 2 (omega arith) (omega arith),
+      shown-most (crcHigh room) 2 (omega arith) (omega arith),
+    ))

@@ -1,2 +1,4 @@
 pub mod Form
 pub mod Row
+pub mod Desk
+pub mod Progress

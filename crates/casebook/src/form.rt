@@ -6,8 +6,11 @@ ghost use Rattle.casebook.specs.Form.{begins, numberFrom, numberIn, memo
 
 // The kinds of an event, as cabi numbers them.
 const ON: u32 = 0;
+
 const OFF: u32 = 1;
+
 const END_OF_FRAME: u32 = 2;
+
 const REQUEST: u32 = 3;
 
 pub enum Number {

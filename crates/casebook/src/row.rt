@@ -8,6 +8,7 @@ ghost use Rattle.text.specs.Text.{decimalOf};
 ghost use Rattle.casebook.specs.Row.{shown, field, crcHigh, numbersText, pairText, rowText};
 
 const SPACE: u8 = 0x20;
+
 const NEWLINE: u8 = 0x0A;
 
 // A number in decimal, and a space.

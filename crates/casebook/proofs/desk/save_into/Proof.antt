@@ -1,0 +1,15 @@
+-- `casebook::desk::save_into` is safe and ends.
+-- Assumes nothing.
+use borrow.Author.Needs.{needs}
+use Rattle.casebook.proofs.desk.save_into.Statement.{statement}
+use Rattle.casebook.proofs.desk.save_into.Tie as tie
+
+pub save-into-spec : {M : Type 1} → statement M
+save-into-spec =
+    tie.close
+    (tie.spec
+    (λ c κs. search needs)
+    (λ c κs. search needs)
+    (λ c. search needs)
+    (λ c. search needs)
+    (λ c. search needs))
