@@ -78,19 +78,23 @@ module _ (size : ℕ) (t : Tag) where
       go-field : (b : Bool) → leb (oneIf b) 1 ≡ true
       go-field true = refl
       go-field false = refl
+
       go-state : (s : State) → leb (stateByte s) 2 ≡ true
       go-state Ready = refl
       go-state Quiet = refl
       go-state Selected = refl
+
       go-session : (s : Session) → leb (sessionByte s) 4 ≡ true
       go-session session.None = refl
       go-session session.Configuration = refl
       go-session session.User1 = refl
       go-session session.User2 = refl
       go-session session.User3 = refl
+
       go-round : (r : Round) → leb (openByte r) 1 ≡ true
       go-round round.None = refl
       go-round (round.Open slot mask) = refl
+
       go-held : (h : Held) → leb (heldByte h) 2 ≡ true
       go-held held.None = refl
       go-held (held.Answer verdict.Success) = refl
@@ -103,6 +107,7 @@ module _ (size : ℕ) (t : Tag) where
       go-round : (r : Round) → (eqb (openByte r) 1 || (eqb (slotByte r) 0 && eqb (maskByte r) 0)) ≡ true
       go-round round.None = refl
       go-round (round.Open slot mask) = refl
+
       go-held : (h : Held) → (eqb (heldByte h) 2 || eqb (codeByte h) 0) ≡ true
       go-held held.None = refl
       go-held (held.Answer verdict.Success) = refl
@@ -205,6 +210,7 @@ save-same t m i l =
   where
     done : SaveGiven
     done = record { result = outcome refusal.None (headerLength + length m) t; image = imageOf t m }
+
     go : (a b c : Bool) → (if not a then saveStays refusal.Image i else if not b then saveStays refusal.Memory i else if not c then saveStays refusal.Record i else shown-save done) ≡ shown-save (if not a then saveRefused refusal.Image t i else if not b then saveRefused refusal.Memory t i else if not c then saveRefused refusal.Record t i else done)
     go false b c = refl
     go true false c = refl
