@@ -150,21 +150,28 @@ static double cpu_ns(void)
     return 1e9 * (double)now.tv_sec + (double)now.tv_nsec;
 }
 
-static double run(way *one, struct tag *t, const struct call *c, long repeats)
+/* A call, made in one way on one tag. */
+struct side {
+    const struct call *call;
+    way *by;
+    struct tag *on;
+};
+
+static double run(struct side s, long repeats)
 {
     double began = cpu_ns();
     for (long i = 0; i < repeats; i++) {
         __asm__ volatile("" : : : "memory");
-        if (one(t, c) != c->answered)
+        if (s.by(s.on, s.call) != s.call->answered)
             die("an answer has another length");
     }
     return (cpu_ns() - began) / (double)repeats;
 }
 
-static long repeats_of(way *one, struct tag *t, const struct call *c)
+static long repeats_of(struct side s)
 {
     long repeats = 1;
-    while (run(one, t, c, repeats) * (double)repeats < RUN_NS)
+    while (run(s, repeats) * (double)repeats < RUN_NS)
         repeats *= 2;
     return repeats;
 }
@@ -173,60 +180,66 @@ struct pair {
     double a, b;
 };
 
-/* The best times of a call made in two ways, or on two tags, by turns. */
-static struct pair best(const struct call *c, way *a, struct tag *on_a, way *b, struct tag *on_b)
+/* The best times of two sides, by turns. */
+static struct pair best(struct side a, struct side b)
 {
-    long repeats_a = repeats_of(a, on_a, c), repeats_b = repeats_of(b, on_b, c);
-    struct pair least = {1e18, 1e18};
+    long repeats_a = repeats_of(a), repeats_b = repeats_of(b);
+    struct pair p = {1e18, 1e18};
     for (int i = 0; i < RUNS; i++) {
-        double ns_a = run(a, on_a, c, repeats_a), ns_b = run(b, on_b, c, repeats_b);
-        least.a = ns_a < least.a ? ns_a : least.a;
-        least.b = ns_b < least.b ? ns_b : least.b;
+        double ns_a = run(a, repeats_a), ns_b = run(b, repeats_b);
+        p.a = ns_a < p.a ? ns_a : p.a;
+        p.b = ns_b < p.b ? ns_b : p.b;
     }
-    return least;
+    return p;
 }
+
+static struct side library(const struct call *c) { return (struct side){c, by_library, &large}; }
+static struct side floor_of(const struct call *c) { return (struct side){c, by_floor, &large}; }
 
 /* ---- tables */
 
 static void head(const char *name, const char *a, const char *b) { printf("%-40s %12s %12s %8s\n", name, a, b, "ratio"); }
-static void line(const char *name, struct pair p) { printf("%-40s %9.0f ns %9.0f ns %8.2f\n", name, p.a, p.b, p.a / p.b); }
+static void line(const char *name, double a, double b) { printf("%-40s %9.0f ns %9.0f ns %8.2f\n", name, a, b, a / b); }
 
-static struct pair mix(void)
+static void mix(void)
 {
-    struct pair all = {0, 0}, longest = {0, 0};
+    double all = 0, all_floor = 0, longest = 0;
     head("the mix, on a 64 Kbit tag", "library", "floor");
     for (int i = 0; i < CALLS; i++) {
-        struct pair p = best(&calls[i], by_library, &large, by_floor, &large);
-        line(calls[i].name, p);
-        all = (struct pair){all.a + p.a, all.b + p.b};
+        struct pair p = best(library(&calls[i]), floor_of(&calls[i]));
+        line(calls[i].name, p.a, p.b);
+        all += p.a;
+        all_floor += p.b;
         if (i == MOST)
-            longest = p;
+            longest = p.a / p.b;
     }
-    line("all of these, once each", all);
-    printf("Aim: at most %.2f on the 2,048 blocks; %s.\n\n", AIM, longest.a <= AIM * longest.b ? "met" : "MISSED");
-    return longest;
+    line("all of these, once each", all, all_floor);
+    printf("Aim: at most %.2f on the 2,048 blocks; %s.\n\n", AIM, longest <= AIM ? "met" : "MISSED");
+    event(&large, UISTERMO_ON, NULL, 0); /* loading left the field off */
 }
 
-/* A damaged frame costs its CRC and what every event pays; what is left of the longest read are its blocks. */
-static void parts(struct pair longest)
+/* A damaged frame costs its CRC and what every event pays; what the longest read costs beyond such a frame are its blocks. */
+static void parts(void)
 {
-    event(&large, UISTERMO_ON, NULL, 0); /* loading left the field off */
-    double fixed = best(&nothing, by_library, &large, by_floor, &large).a;
-    struct pair checked = best(&long_frame, by_library, &large, by_floor, &large);
-    double copied = best(&calls[MOST], by_copy, &large, by_copy, &large).a;
+    struct pair checked = best(library(&long_frame), library(&nothing));
+    struct pair blocks = best(library(&calls[MOST]), library(&long_frame));
+    struct pair floors = best(floor_of(&long_frame), (struct side){&calls[MOST], by_copy, &large});
     head("the 2,048 blocks in parts", "library", "floor");
-    printf("%-40s %9.0f ns %12s %8s\n", nothing.name, fixed, "-", "-");
-    line("CRC of 10,241 bytes", (struct pair){checked.a - fixed, checked.b});
-    line("blocks and status; floor: one copy", (struct pair){longest.a - checked.a, copied});
+    printf("%-40s %9.0f ns %12s %8s\n", nothing.name, checked.b, "-", "-");
+    line("CRC of 10,241 bytes", checked.a - checked.b, floors.a);
+    line("blocks and status; floor: one copy", blocks.a - blocks.b, floors.b);
     puts("");
 }
 
 static void sizes(void)
 {
     head("memory that a call does not touch", "64 Kbit", "16 Kbit");
-    for (int i = 0; i < LOADING; i++)
-        if (i != MOST)
-            line(calls[i].name, best(&calls[i], by_library, &large, by_library, &small));
+    for (int i = 0; i < LOADING; i++) {
+        if (i == MOST)
+            continue;
+        struct pair p = best(library(&calls[i]), (struct side){&calls[i], by_library, &small});
+        line(calls[i].name, p.a, p.b);
+    }
 }
 
 /* ---- before them */
@@ -262,7 +275,8 @@ int main(void)
     prepare_call(&long_frame);
     for (int i = 0; i < LOADING; i++)
         prepare_call(&calls[i]);
-    parts(mix());
+    mix();
+    parts();
     sizes();
     return 0;
 }
