@@ -17,7 +17,7 @@ from typing import NamedTuple
 from worked import SESSION_INPUT
 
 from .inputs import write_inputs
-from .runs import CLOSED, run, run_in_pieces, run_to_closed_pipe
+from .runs import CLOSED, endless, run, run_in_pieces, run_to_closed_pipe
 
 MEGABYTE = 1000000
 MOST_MEMORY = 64 * MEGABYTE
@@ -102,6 +102,11 @@ class BadInput:
         limit = self.settings.limit
         for name, sink in (("closed output", CLOSED), ("a full device as output", "/dev/full")):
             self.note(name, run(self.command, path, sink, limit))
+            with endless("EOF") as source:
+                self.note(f"{name}, endless input", run(self.command, None, sink, limit, stdin=source))
+        with endless("EOF") as source:
+            ended, _ = run_to_closed_pipe(self.command, None, limit, stdin=source)
+            self.note("pipe closed after one byte, endless input", ended)
         self.note("closed input and output", run(self.command, CLOSED, CLOSED, limit))
         for name, source in (("pipe closed after one byte", path), ("pipe closed, very long line", long_path)):
             ended, first = run_to_closed_pipe(self.command, source, limit)

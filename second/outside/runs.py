@@ -1,5 +1,6 @@
 """Runs a program to its end, or to a limit, and says how it ended."""
 
+import contextlib
 import os
 import select
 import shlex
@@ -56,9 +57,19 @@ def wait(program, limit):
     return Ended(code, by_signal, seconds, usage.ru_maxrss * 1024, late)
 
 
-def run(command, source, sink, limit):
+def run(command, source, sink, limit, **streams):
     """From a file to a file; CLOSED closes one or the other."""
-    return wait(start(command, source, sink), limit)
+    return wait(start(command, source, sink, **streams), limit)
+
+
+@contextlib.contextmanager
+def endless(word):
+    """A pipe through which this line comes again and again."""
+    with subprocess.Popen(["yes", word], stdout=subprocess.PIPE, stderr=subprocess.DEVNULL) as feeder:
+        try:
+            yield feeder.stdout
+        finally:
+            feeder.kill()
 
 
 def run_in_pieces(command, data, sink, limit):
@@ -76,9 +87,9 @@ def run_in_pieces(command, data, sink, limit):
     return wait(program, limit)
 
 
-def run_to_closed_pipe(command, source, limit):
+def run_to_closed_pipe(command, source, limit, **streams):
     """As `| head -c 1`: one byte is taken and the pipe closed. Returns the byte too, or none if it does not come."""
-    program = start(command, source, None, stdout=subprocess.PIPE)
+    program = start(command, source, None, stdout=subprocess.PIPE, **streams)
     ready = select.select([program.stdout], [], [], limit)[0]
     first = os.read(program.stdout.fileno(), 1) if ready else b""
     program.stdout.close()
