@@ -7,11 +7,9 @@ use native.Mathlib.Omega.{arith}
 use lib.ListN.{length, take, drop, length-append}
 use Rattle.put.specs.Put.{Put}
 use Rattle.put.proofs.Written.{Next, sum, room, more, whole}
-use lib.Dec.{eqb}
-use Rattle.rights.proofs.Cases.{if-one}
 use Rattle.text.proofs.Pieces.{one-next, begun}
-use Rattle.text.proofs.Texts.{hex-length, decimal-length}
-use Rattle.casebook.specs.Row.{shown, crcHigh, numbersText, pairText, rowText}
+use Rattle.text.proofs.Texts.{hex-or-most, decimal-length}
+use Rattle.casebook.specs.Row.{crcHigh, numbersText, pairText, rowText}
 
 -- a text has room where it has with what follows it
 pub first-room : (L M : List ℕ) {n : ℕ} → length (L ++ M) ≤ n → length L ≤ n
@@ -37,11 +35,6 @@ end-within end p h = omega (arith, sum (one-next (begun (end ∷ []) p h)))
 
 -- ---- how long an answer line is
 
-shown-most : (bytes : List ℕ) (n : ℕ) → 1 ≤ n → length bytes ≤ n → length (shown bytes) ≤ 2 * n
-unfolding shown
-shown-most bytes n one h =
-    if-one (λ (l : List ℕ). length l ≤ 2 * n) (eqb (length bytes) 0) (λ e. omega arith) (λ e. omega (arith, hex-length bytes))
-
 -- two numbers of at most 20 figures, an answer of at most 11,000 bytes, a record, two sums, and a byte after each
 pub row-most : (number count : ℕ) (answer tag memory room : List ℕ) → length answer ≤ 11000 → length tag ≡ 72 → length (rowText number count answer tag memory room) ≤ 22198
 unfolding rowText numbersText pairText
@@ -51,8 +44,8 @@ row-most number count answer tag memory room h e =
       arith,
       decimal-length 19 number,
       decimal-length 19 count,
-      shown-most answer 11000 (omega arith) h,
-      shown-most tag 72 (omega arith) (omega arith),
-      shown-most (crcHigh memory) 2 (omega arith) (omega arith),
-      shown-most (crcHigh room) 2 (omega arith) (omega arith),
+      hex-or-most 0x2D answer 11000 (omega arith) h,
+      hex-or-most 0x2D tag 72 (omega arith) (omega arith),
+      hex-or-most 0x2D (crcHigh memory) 2 (omega arith) (omega arith),
+      hex-or-most 0x2D (crcHigh room) 2 (omega arith) (omega arith),
     ))

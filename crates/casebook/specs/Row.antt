@@ -2,15 +2,12 @@
 -- Assumes nothing.
 use Prim.Native.Nat.{ℕ, _/_, _%_}
 use mathlib.Core.List.{List, [], _∷_, _++_}
-use lib.ListN.{length}
-use lib.Dec.{eqb}
-use Rattle.put.specs.If.{if_then_else_}
 use Rattle.crc.specs.Crc.{crcOf}
-use Rattle.text.specs.Text.{hexOf, decimalOf}
+use Rattle.text.specs.Text.{hexOr, decimalOf}
 
 -- "in hex, or `-` where length is 0"
-unfoldable pub shown : List ℕ → List ℕ
-shown bytes = if eqb (length bytes) 0 then 0x2D ∷ [] else hexOf bytes
+abbrev pub shown : List ℕ → List ℕ
+shown bytes = hexOr 0x2D bytes
 
 -- a text, and the space or newline after it
 abbrev pub field : ℕ → List ℕ → List ℕ

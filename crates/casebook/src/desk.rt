@@ -1,4 +1,4 @@
-// What a line does to the lent buffers, and its answer line.
+// What a line does to the lent buffers, and its answer line: first what it lends, of the whole buffers, then what it does, over what is lent.
 use crate::form::Form;
 use crate::form::after;
 ghost use mathlib.Core.Path.{_≡_};
@@ -55,7 +55,8 @@ fn least(a: usize, b: usize) -> usize
     if a < b { a } else { b }
 }
 
-// The answer line of a call that gave a result: "refusal number times 2^32 plus length". What it answered stands at the start of room.
+// The answer line of a call that gave a result: "refusal number times 2^32 plus length". What it answered stands at the start of room. A
+// length past the end of room, which no call gives, would show all of it.
 fn say_call(result: u64, tag: &[u8; 72], memory: &[u8], room: &[u8], out: &mut [u8]) -> usize
     requires { ⌜ Suits (length (now room)) (length (now out)) ⌝ }
     ensures { λ r. ⌜ r ≤ length (now (out .exit)) ⌝ }
@@ -152,7 +153,7 @@ fn act(
     }
 }
 
-// A line.
+// A line: what it asks for, what it lends, and what it does.
 pub fn answer(
     lent: Lent,
     line: &[u8],

@@ -11,6 +11,9 @@ const SPACE: u8 = 0x20;
 
 const NEWLINE: u8 = 0x0A;
 
+// What stands for no bytes.
+const NONE: u8 = 0x2D;
+
 // A number in decimal, and a space.
 fn put_number(n: u64, out: &mut [u8]) -> usize
     requires { ⌜ length (field 0x20 (decimalOf n)) ≤ length (now out) ⌝ }
@@ -21,23 +24,12 @@ fn put_number(n: u64, out: &mut [u8]) -> usize
     at + 1
 }
 
-// "in hex, or `-` where length is 0"
-fn put_shown(bytes: &[u8], out: &mut [u8]) -> usize
-    requires { ⌜ length (shown (now bytes)) ≤ length (now out) ⌝ }
-    ensures { λ r. ⌜ Put (shown (now (bytes .entry))) (now (out .entry)) (now (out .exit)) r ⌝ }
-{
-    if bytes.len() == 0 {
-        out[0] = 0x2D;
-        return 1;
-    }
-    text::put_hex(bytes, out)
-}
-
+// Bytes "in hex, or `-` where length is 0", and a space or newline.
 fn put_field(bytes: &[u8], end: u8, out: &mut [u8]) -> usize
     requires { ⌜ length (field end (shown (now bytes))) ≤ length (now out) ⌝ }
     ensures { λ r. ⌜ Put (field end (shown (now (bytes .entry)))) (now (out .entry)) (now (out .exit)) r ⌝ }
 {
-    let at = put_shown(bytes, out);
+    let at = text::put_hex_or(NONE, bytes, out);
     out[at] = end;
     at + 1
 }

@@ -5,14 +5,12 @@ use mathlib.Core.List.{List, [], _∷_, _++_}
 use Prim.Native.Nat.{ℕ, _+_, _-_, _*_, _≤_}
 use native.Mathlib.Omega.{arith}
 use lib.ListN.{length, set, take, drop, length-append, length-set}
-use lib.Dec.{eqb}
 use Rattle.put.specs.Put.{Put}
 use Rattle.put.proofs.Written.{Next, sum, store, more, whole}
-use Rattle.rights.proofs.Cases.{if-one}
-use Rattle.text.specs.Text.{decimalOf}
-use Rattle.lines.specs.Output.{answerText, textOf}
+use Rattle.text.specs.Text.{hexOr, decimalOf}
+use Rattle.lines.specs.Output.{textOf}
 use Rattle.text.proofs.Pieces.{one-next, begun}
-use Rattle.text.proofs.Texts.{hex-length, decimal-length}
+use Rattle.text.proofs.Texts.{hex-or-most, decimal-length}
 
 module _ (number mark : ℕ) (answer : List ℕ) where
   abbrev text : List ℕ
@@ -24,15 +22,15 @@ module _ (number mark : ℕ) (answer : List ℕ) where
 
   -- the number was put
   module _ {out₀ out : List ℕ} {at : ℕ} (h : length text ≤ length out₀) (p : Put (decimalOf number) out₀ out at) where
-    pub space : Next text (0x20 ∷ []) (answerText mark answer ++ (0x0A ∷ [])) out₀ out at
+    pub space : Next text (0x20 ∷ []) (hexOr mark answer ++ (0x0A ∷ [])) out₀ out at
     unfolding textOf
     space = one-next (begun _ p h)
 
-    pub answered : Next text (answerText mark answer) (0x0A ∷ []) out₀ (set out at 0x20) (at + 1)
+    pub answered : Next text (hexOr mark answer) (0x0A ∷ []) out₀ (set out at 0x20) (at + 1)
     answered = record { written = store 0x20 space }
 
     -- and what is answered, after a space
-    module _ {ys : List ℕ} {k : ℕ} (q : Put (answerText mark answer) (take (length (set out at 0x20) - (at + 1)) (drop (at + 1) (set out at 0x20))) ys k) where
+    module _ {ys : List ℕ} {k : ℕ} (q : Put (hexOr mark answer) (take (length (set out at 0x20) - (at + 1)) (drop (at + 1) (set out at 0x20))) ys k) where
       abbrev line : List ℕ
       line = take (at + 1) (set out at 0x20) ++ (ys ++ drop (length (set out at 0x20) - (at + 1)) (drop (at + 1) (set out at 0x20)))
 
@@ -50,7 +48,5 @@ module _ (number mark : ℕ) (answer : List ℕ) where
 
   -- an answer of at most n bytes has a line of at most 22 + 2 n
   pub text-most : (n : ℕ) → 1 ≤ n → length answer ≤ n → length text ≤ 22 + 2 * n
-  unfolding textOf answerText
-  text-most n one h =
-      let s : length (answerText mark answer) ≤ 2 * n = if-one (λ (l : List ℕ). length l ≤ 2 * n) (eqb (length answer) 0) (λ e. omega arith) (λ e. omega (arith, hex-length answer)) in
-      simp length-append (omega (arith, s, decimal-length 19 number))
+  unfolding textOf
+  text-most n one h = simp length-append (omega (arith, hex-or-most mark answer n one h, decimal-length 19 number))

@@ -2,15 +2,15 @@
 -- Assumes nothing.
 use Prim.Native.Nat.{ℕ, _+_}
 use mathlib.Core.List.{List, [], _∷_, _++_}
-use lib.ListN.{length, replicate}
-use lib.Dec.{ltb, eqb}
+use lib.ListN.{replicate}
+use lib.Dec.{ltb}
 use Rattle.put.specs.If.{if_then_else_}
 use Rattle.record.specs.declared.Tag.{Tag}
 use Rattle.tag.specs.Step.{step}
 use Rattle.tag.specs.Image.{factory}
 use Rattle.lines.specs.declared.form.Form.{Form}
 use Rattle.lines.specs.declared.form.Form.the-variants.{Event, NoForm}
-use Rattle.text.specs.Text.{hexOf, decimalOf}
+use Rattle.text.specs.Text.{hexOr, decimalOf}
 use Rattle.lines.specs.Form.{linesOf, formOf, eventIn}
 
 -- what stands between two lines: the number of the next line, and the tag with its memory
@@ -30,10 +30,6 @@ atFirst = record { number = 1; tag = firstTag; memory = replicate 2048 0 }
 unfoldable pub nextNumber : ℕ → ℕ
 nextNumber n = if ltb n 0xFFFFFFFFFFFFFFFF then n + 1 else n
 
--- bytes in hex, or a mark where there are none
-unfoldable pub answerText : ℕ → List ℕ → List ℕ
-answerText mark answer = if eqb (length answer) 0 then mark ∷ [] else hexOf answer
-
 -- `-` for silence, and `?` for a line of no form
 abbrev pub dash : ℕ
 dash = 0x2D
@@ -43,7 +39,7 @@ question = 0x3F
 
 -- "Each output line: line number from 1 in decimal, a space, then the whole answer in hex, `-` for silence, or `?`"
 unfoldable pub textOf : ℕ → ℕ → List ℕ → List ℕ
-textOf number mark answer = decimalOf number ++ (0x20 ∷ (answerText mark answer ++ (0x0A ∷ [])))
+textOf number mark answer = decimalOf number ++ (0x20 ∷ (hexOr mark answer ++ (0x0A ∷ [])))
 
 -- an output line, and the bench after it
 pub record Said : Type 0 where

@@ -15,7 +15,7 @@ use borrow.Author.Tests.{eq-eqb, ne-eqb, leb-true, lt-ltb, le-ltb, ltb-true, ltb
 use Rattle.put.specs.Put.{Put}
 use Rattle.put.proofs.Written.{Written, Next, whole}
 use Rattle.text.proofs.Pieces.{put-one, put-last}
-use Rattle.text.specs.Text.{same, hexDigit, hexOf, isFigure, isLetter, isDigit, allDigits, valueOf, bytesIn, decimal, decimalOf}
+use Rattle.text.specs.Text.{same, hexDigit, hexOf, hexOr, isFigure, isLetter, isDigit, allDigits, valueOf, bytesIn, decimal, decimalOf}
 
 pub less-or-not : (a b : ℕ) → (a < b) ⊎ (b ≤ a)
 less-or-not a b = go (ltb a b) refl
@@ -114,6 +114,12 @@ pub hex-length : (s : List ℕ) → length (hexOf s) ≡ 2 * length s
 unfolding hexOf
 hex-length [] = refl
 hex-length (b ∷ s) = omega (arith, hex-length s)
+
+-- bytes of which there are at most n, or a mark
+pub hex-or-most : (mark : ℕ) (s : List ℕ) (n : ℕ) → 1 ≤ n → length s ≤ n → length (hexOr mark s) ≤ 2 * n
+unfolding hexOr
+hex-or-most mark [] n one h = omega arith
+hex-or-most mark (b ∷ s) n one h = rw (ne-eqb (length (b ∷ s)) 0 (λ e. omega arith)) (omega (arith, hex-length (b ∷ s)))
 
 module _ {L out₀ out : List ℕ} {at : ℕ} (i : ℕ) (s : List ℕ) (w : Written L (hexOf (drop i s)) out₀ out at) where
   pub high : i < length s → Next L (hexDigit (getD s i 0 / 16) ∷ []) (hexDigit (getD s i 0 % 16) ∷ hexOf (drop (i + 1) s)) out₀ out at

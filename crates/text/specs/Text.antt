@@ -5,6 +5,7 @@ use Prim.Native.Char.{code}
 use Prim.Native.String.{String, [] as end, _∷_ as _before_}
 use mathlib.Core.Bool.{Bool, true, false, _&&_, _||_}
 use mathlib.Core.List.{List, [], _∷_, _++_}
+use lib.ListN.{length}
 use lib.Dec.{leb, ltb, eqb}
 use Rattle.put.specs.If.{if_then_else_}
 
@@ -29,6 +30,10 @@ hexDigit n = if ltb n 10 then 0x30 + n else 0x37 + n
 unfoldable pub hexOf : List ℕ → List ℕ
 hexOf [] = []
 hexOf (b ∷ bs) = hexDigit (b / 16) ∷ hexDigit (b % 16) ∷ hexOf bs
+
+-- bytes in hex, or a mark where there are none
+unfoldable pub hexOr : ℕ → List ℕ → List ℕ
+hexOr mark bytes = if eqb (length bytes) 0 then mark ∷ [] else hexOf bytes
 
 abbrev pub isFigure : ℕ → Bool
 isFigure d = leb 0x30 d && leb d 0x39

@@ -3,7 +3,7 @@ ghost use mathlib.Core.Path.{_≡_};
 ghost use Prim.Native.Nat.{_≤_, _<_};
 ghost use lib.ListN.{length};
 ghost use Rattle.put.specs.Put.{Put};
-ghost use Rattle.text.specs.Text.{same, hexDigit, hexOf, isFigure, isLetter, isDigit, allDigits, valueOf, bytesIn, decimalOf};
+ghost use Rattle.text.specs.Text.{same, hexDigit, hexOf, hexOr, isFigure, isLetter, isDigit, allDigits, valueOf, bytesIn, decimalOf};
 
 // Two texts are the same, byte by byte.
 pub fn is_same(a: &[u8], b: &[u8]) -> bool
@@ -106,6 +106,18 @@ pub fn put_hex(bytes: &[u8], out: &mut [u8]) -> usize
         i += 1;
     }
     at
+}
+
+// The bytes in hex, or a mark where there are none, go to the start of out.
+pub fn put_hex_or(mark: u8, bytes: &[u8], out: &mut [u8]) -> usize
+    requires { ⌜ length (hexOr mark (now bytes)) ≤ length (now out) ⌝ }
+    ensures { λ r. ⌜ Put (hexOr mark (now (bytes .entry))) (now (out .entry)) (now (out .exit)) r ⌝ }
+{
+    if bytes.len() == 0 {
+        out[0] = mark;
+        return 1;
+    }
+    put_hex(bytes, out)
 }
 
 // The number in decimal goes to the start of out.

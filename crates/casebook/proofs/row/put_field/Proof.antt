@@ -14,7 +14,7 @@ put-field-spec =
     tie.close
     (tie.spec
     (λ c κs. let s = c .before .before .before in first-room (shown (s .args .bytes .now)) (s .args .end ∷ []) (s .pre))
-    (λ c. let s = c .before .before .before .before .before .before in end-within (s .args .end) (c .before .before .put-shown .ensures) (s .pre))
-    (λ c. let s = c .before .before .before .before .before .before in omega (arith, end-within (s .args .end) (c .before .before .put-shown .ensures) (s .pre)))
+    (λ c. let s = c .before .before .before .before .before .before in end-within (s .args .end) (c .before .before .put-hex-or .ensures) (s .pre))
+    (λ c. let s = c .before .before .before .before .before .before in omega (arith, end-within (s .args .end) (c .before .before .put-hex-or .ensures) (s .pre)))
     (λ c. search needs)
-    (λ c. let s = c .before .before .before .before .before .before in put-last (s .args .end) (c .before .before .put-shown .ensures) (s .pre)))
+    (λ c. let s = c .before .before .before .before .before .before in put-last (s .args .end) (c .before .before .put-hex-or .ensures) (s .pre)))

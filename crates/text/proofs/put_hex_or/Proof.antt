@@ -1,15 +1,15 @@
--- `lines::output::put_answer` meets its contract.
+-- `text::put_hex_or` meets its contract.
 -- Assumes nothing.
 use borrow.Author.Tests.{eq-eqb, ne-eqb}
-use Rattle.lines.specs.Output.{answerText}
+use Rattle.text.specs.Text.{hexOr}
 use Rattle.text.proofs.Pieces.{put-one}
 use borrow.Author.Needs.{needs}
-use Rattle.lines.proofs.output.put_answer.Statement.{statement}
-use Rattle.lines.proofs.output.put_answer.Tie as tie
+use Rattle.text.proofs.put_hex_or.Statement.{statement}
+use Rattle.text.proofs.put_hex_or.Tie as tie
 
-pub put-answer-spec : {M : Type 1} → statement M
-unfolding answerText
-put-answer-spec =
+pub put-hex-or-spec : {M : Type 1} → statement M
+unfolding hexOr
+put-hex-or-spec =
     tie.close
     (tie.spec
     (λ c. let h = rw (eq-eqb _ _ (c .if1 .taken)) at (c .before .before .before .pre) in h)
