@@ -6,7 +6,7 @@
  *
  * The host keeps three buffers for a tag and lends them to each call:
  *   record   UISTERMO_RECORD bytes, made by uistermo_factory or uistermo_load and updated by each event. To the host they are closed;
- *            crates/cabi/specs/Bytes.antt has their layout. They can be copied and kept, and hold the passwords in plain bytes.
+ *            crates/packed/specs/Bytes.antt has their layout. They can be copied and kept, and hold the passwords in plain bytes.
  *   memory   the tag's user memory. Its length alone says which size of tag it is.
  *   room     where an answer is written, UISTERMO_ROOM bytes or more.
  *

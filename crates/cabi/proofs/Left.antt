@@ -3,24 +3,18 @@
 use Prim.Native.Nat.{ℕ, _-_, _≤_}
 use native.Mathlib.Omega.{arith}
 use mathlib.Core.Path.{_≡_, refl, sym, _∙_}
-use mathlib.Core.Bool.{true, false, _&&_}
-use mathlib.Core.List.{List, _++_}
-use lib.ListN.{length, take, drop}
+use mathlib.Core.Bool.{true, false}
+use mathlib.Core.List.{List}
+use lib.ListN.{length}
 use lib.Dec.{ltb}
 use borrow.Author.Tests.{le-ltb}
-use Rattle.put.specs.Put.{Put}
-use Rattle.put.specs.Number.{bytesOf}
-use Rattle.put.proofs.Lists.{put-then, put-all}
-use Rattle.rights.proofs.Cases.{both}
-use Rattle.record.specs.declared.Tag.{Tag}
 use Rattle.record.specs.declared.Refusal.{Refusal}
 use Rattle.record.specs.declared.Refusal.the-variants as refusal
 use Rattle.record.specs.declared.Outcome.{Outcome}
-use Rattle.tag.specs.Rules.{blocksOf, sound}
 use Rattle.tag.specs.Step.{eventOf}
-use Rattle.tag.specs.Image.{headerOf}
 use Rattle.tag.specs.Host.{numberOf, isMemory, fitsImage, isImage, eventDone, eventGiven, EventGives, LoadGives, saveGiven, SaveGives}
-use Rattle.cabi.specs.Bytes.{recordLength, recordIn, lastingRule, valueRule, unusedRule, recordRule, isRecord, passingOf, recordOf}
+use Rattle.packed.specs.Bytes.{recordIn, isRecord, recordOf}
+use Rattle.packed.proofs.Again.{record-sound}
 use Rattle.cabi.specs.Calls.{resultOf, kindIn, EventLeft, eventLeft, EventLeaves, unlessRefused, loadLeft, LoadLeaves, SaveLeft, saveLeft, SaveLeaves, FactoryLeft, factoryLeft, FactoryLeaves}
 
 pub number-most : (r : Refusal) → numberOf r ≤ 5
@@ -30,18 +24,6 @@ number-most refusal.Room = omega arith
 number-most refusal.Record = omega arith
 number-most refusal.Image = omega arith
 number-most refusal.Header = omega arith
-
--- bytes that are a record keep the record rules
-pub record-sound : (m r : List ℕ) → isRecord m r ≡ true → sound (blocksOf m) (recordIn r) ≡ true
-unfolding recordRule
-record-sound m r h = both (lastingRule (length m) r && (valueRule r && unusedRule r)) (sound (blocksOf m) (recordIn r)) h .1
-
--- the header was put at the start, and the passing parts after it
-pub record-put : (size : ℕ) (t : Tag) {n k : ℕ} {after xs ys zs : List ℕ} → after ≡ passingOf t → Put (headerOf size t) xs ys n → Put after (take (length ys - 64) (drop 64 ys)) zs k → length xs ≡ recordLength → take 64 ys ++ (zs ++ drop (length ys - 64) (drop 64 ys)) ≡ recordOf size t
-unfolding recordOf headerOf bytesOf
-record-put size t {n} {k} {after} {xs} {ys} {zs} e p q l =
-    let z : Put (passingOf t) (take (length ys - 64) (drop 64 ys)) zs k = rw (← e) q in
-    put-all (put-then refl p z) l
 
 -- ---- a call that leaves what the definition names
 

@@ -1,3 +1,3 @@
-pub mod Left
+mod Left
 pub mod OnlyOne
-pub mod Again
+pub mod Same

@@ -14,7 +14,7 @@ use Rattle.record.specs.declared.Refusal.the-variants as refusal
 use Rattle.tag.specs.Step.{eventOf}
 use Rattle.tag.specs.Image.{headerLength, factory, imageOf}
 use Rattle.tag.specs.Host.{numberOf, isMemory, fitsImage, leastRoom, isImage, eventDone, loadGiven}
-use Rattle.cabi.specs.Bytes.{recordIn, isRecord, recordOf}
+use Rattle.packed.specs.Bytes.{recordIn, isRecord, recordOf}
 
 -- "refusal number times 2^32 plus length"
 abbrev pub resultOf : Refusal → ℕ → ℕ

@@ -1,23 +1,19 @@
 // The C boundary: the calls of a host over bytes alone, so that the bench's C host links the proved tag. The record is 72 bytes that the
 // caller keeps; any bytes are taken, and those that are no record are refused. `include/uistermo.h` says the same in C.
-mod bytes; // bytes.rt: the record as 72 bytes
-
-use bytes::is_record;
-use bytes::read_record;
-use bytes::write_record;
 use host::fits_image;
 use host::is_image;
 use host::is_memory;
 use host::last_end;
 use image::reading::factory;
+use packed::RECORD;
+use packed::is_record;
+use packed::read_record;
+use packed::write_record;
 use record::Kind;
 use record::Refusal;
 ghost use mathlib.Core.Path.{_≡_};
 ghost use Rattle.tag.specs.Host.{numberOf};
 ghost use Rattle.cabi.specs.Calls.{resultOf, kindIn, EventLeaves, LoadLeaves, SaveLeaves, FactoryLeaves};
-
-// How many bytes a record has: `recordLength` of the definition, UISTERMO_RECORD of the header.
-pub const RECORD: usize = 72;
 
 // 01's numbers, 0 for none
 fn number(r: Refusal) -> u64
