@@ -63,7 +63,7 @@ fn read_vault(image: &[u8]) -> Vault
     }
 }
 
-// "1 to 8 UID; 9 AFI; 10 DSFID; 11 locks (.. bit 2 AFI; bit 3 DSFID; ..)". "Loading gives a tag with the field off."
+// "1 to 8 UID; 9 AFI; 10 DSFID; 11 locks (.. bit 2 AFI; bit 3 DSFID; ..)"
 fn read_front(image: &[u8]) -> Front
     ensures { λ r. ⌜ r ≡ tagIn (now (image .entry)) .front ⌝ }
 {
@@ -74,7 +74,7 @@ fn read_front(image: &[u8]) -> Front
         dsfid: byte_at(image, 10),
         lockafi: locks / 4 % 2 == 1,
         lockdsfid: locks / 8 % 2 == 1,
-        field: false,
+        field: false, // "Loading gives a tag with the field off."
         state: State::Ready,
         round: Round::None,
         held: Held::None,
