@@ -7,7 +7,7 @@ use mathlib.Core.List.{List, [], _∷_, _++_}
 use Prim.Native.Nat.{ℕ, _+_, _-_, _*_, _≤_, _<_}
 use native.Mathlib.Nat.{add-zero, sub-zero, mul-zero, mul-add, mul-one}
 use native.Mathlib.Omega.{arith}
-use lib.ListN.{length, take, drop, length-take, length-drop}
+use lib.ListN.{length, take, drop}
 use Rattle.put.specs.If.{if_then_else_}
 use Rattle.put.specs.Put.{Put}
 use Rattle.put.proofs.Written.{Written, Next, none, whole, room, more}
@@ -15,7 +15,7 @@ use Rattle.rights.specs.declared.View.{View}
 use Rattle.rights.specs.Blocks.{readableAt, statusAt}
 use Rattle.tag.specs.Work.{blockShown, listing}
 use Rattle.tag.specs.Blocks.{statuses}
-use Rattle.tag.proofs.Listing.{listing-end, listing-stop, listing-more, listing-within, statuses-end, statuses-stop, statuses-more, statuses-within}
+use Rattle.tag.proofs.Listing.{block-length, listing-end, listing-stop, listing-more, listing-within, statuses-end, statuses-stop, statuses-more, statuses-within}
 
 -- one block after n
 after : (first n : ℕ) → first + n + 1 ≡ first + (n + 1)
@@ -40,18 +40,13 @@ module _ (v : View) (m : List ℕ) (limit first count n : ℕ) (status : Bool) {
   pub unreadable : readableAt v (first + n) ≡ false → Put L out₀ out at
   unreadable e = whole (rw (listing-stop v m limit (first + n) (count - n) status (inr e)) at w)
 
--- a block of the memory has four bytes, and its status one more
-shown-length : (v : View) (m : List ℕ) (b : ℕ) (status : Bool) → 4 * b + 4 ≤ length m → length (blockShown v m b status) ≡ (if status then 5 else 4)
-shown-length v m b true h = simp (length-take, length-drop) (omega arith)
-shown-length v m b false h = simp (length-take, length-drop) (omega arith)
-
 module _ (v : View) (m : List ℕ) (limit first count n : ℕ) (status : Bool) (size : ℕ) {L out₀ out : List ℕ} (w : Written L (listing v m limit (first + n) (count - n) status) out₀ out (size * n)) (h : n < count) (k : first + n < limit) (e : readableAt v (first + n) ≡ true) (fits : 4 * limit ≤ length m) where
   next : Next L (blockShown v m (first + n) status) (listing v m limit (first + (n + 1)) (count - (n + 1)) status) out₀ out (size * n)
   next =
       record { written = rw (listing-more v m limit (first + n) (count - n) status (omega arith) k e, after, fewer) at w }
 
   long : length (blockShown v m (first + n) status) ≡ (if status then 5 else 4)
-  long = shown-length v m (first + n) status (omega arith)
+  long = block-length v m (first + n) status (omega arith)
 
   -- the next block has room
   pub next-room : (if status then 5 else 4) ≤ length (take (length out - size * n) (drop (size * n) out))

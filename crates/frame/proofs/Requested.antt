@@ -1,5 +1,4 @@
--- What is known of a frame that is heard as a request, or as an Inventory: laws for the crates above, so that nobody there unfolds
--- `heardOf`.
+-- What is known of a frame that is heard as a request: laws for the crates above, so that nobody there unfolds `heardOf`.
 -- Assumes nothing.
 use mathlib.Core.Path.{_≡_, refl, _∙_}
 use mathlib.Core.Bool.{Bool, true, false}
@@ -16,7 +15,7 @@ use Rattle.tag.specs.declared.Heard.{Heard}
 use Rattle.tag.specs.declared.Heard.the-variants.{Silence, Deselected, Inventory, Error, Request}
 use Rattle.tag.specs.Table.{entryOf, lengthOf}
 use Rattle.tag.specs.Frame.{flagBit, addressFlag, optionFlag, codeOf, endOf, custom, afterCode, fieldsAt, fieldsFrom, unlisted, selectOfAnother, check2, check3, check4, check5, check6, check7, check8, check9, check10, heardOf}
-use Rattle.frame.proofs.Within.{either, long-enough, within}
+use Rattle.frame.proofs.Within.{long-enough, within}
 
 -- a frame f that is heard as a request of a row e of the table, with Option_flag or without, whose fields begin at start: they lie within the
 -- frame and have the row's length, and the row is that of the frame's code, which is listed
@@ -83,7 +82,3 @@ module _ (t : Front) (f : List ℕ) where
       let w = within t f long (five .0) (six .0) in
       same-request f (ten .1)
       (record { entry = refl; option = refl; long = long; least = least-place f; most = w; listed = seven .0; sized = sized-by f w (eight .0) })
-
-  pub inventory-long : heardOf t f ≡ Inventory → 4 ≤ length f
-  unfolding heardOf
-  inventory-long h = either (check2 f) (λ e. let z : _≡_ {A = ℕ} 0 1 = cc (rw e at h) in absurd (omega arith)) (λ e. long-enough f e)

@@ -1,25 +1,15 @@
 -- The fields of a frame that passes checks 2, 5 and 6 lie within it.
 -- Assumes nothing.
-use mathlib.Core.Path.{_≡_, refl}
-use mathlib.Core.Bool.{Bool, true, false, _||_}
+use mathlib.Core.Path.{_≡_}
+use mathlib.Core.Bool.{true, false}
 use mathlib.Core.List.{List}
 use Prim.Native.Nat.{ℕ, _≤_}
 use native.Mathlib.Omega.{arith}
 use lib.ListN.{length}
 use borrow.Author.Tests.{ltb-true, ltb-false, not-false}
-use Rattle.rights.proofs.Cases.{if-one, both}
+use Rattle.rights.proofs.Cases.{if-one, both, neither}
 use Rattle.record.specs.declared.Front.{Front}
 use Rattle.tag.specs.Frame.{selectFlag, addressFlag, codeOf, endOf, custom, afterCode, fieldsAt, otherUid, check2, check5, check6}
-
--- a disjunction that is false, taken apart
-neither : (a b : Bool) → (a || b) ≡ false → (a ≡ false) × (b ≡ false)
-neither true b e = let z : _≡_ {A = ℕ} 0 1 = cc in absurd (omega arith)
-neither false b e = (refl, e)
-
--- whatever a test says
-pub either : {P : Type 0} (b : Bool) → (b ≡ true → P) → (b ≡ false → P) → P
-either true p q = p refl
-either false p q = q refl
 
 pub long-enough : (f : List ℕ) → check2 f ≡ false → 4 ≤ length f
 unfolding check2
@@ -43,10 +33,7 @@ addressed-within : (t : Front) (f : List ℕ) → addressFlag f ≡ true → che
 unfolding check6
 addressed-within t f a six = uid-within t f (neither (selectFlag f) (otherUid t f) (rw a at six) .1)
 
-plain-within : (f : List ℕ) → addressFlag f ≡ false → 4 ≤ length f → check5 f ≡ false → fieldsAt f ≤ endOf f
-unfolding fieldsAt
-plain-within f a l five = rw a (after-within f l five)
-
 pub within : (t : Front) (f : List ℕ) → 4 ≤ length f → check5 f ≡ false → check6 t f ≡ false → fieldsAt f ≤ endOf f
+unfolding fieldsAt
 within t f l five six =
-    either (addressFlag f) (λ a. addressed-within t f a six) (λ a. plain-within f a l five)
+    if-one (λ (n : ℕ). n ≤ endOf f) (addressFlag f) (λ a. rw a at (addressed-within t f a six)) (λ a. after-within f l five)

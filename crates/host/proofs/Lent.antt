@@ -8,12 +8,12 @@ use lib.Dec.{eqb}
 use lib.ListN.{length}
 use borrow.Author.Tests.{eqb-true}
 use Rattle.put.specs.If.{if_then_else_}
-use Rattle.rights.proofs.Cases.{both, or-one}
+use Rattle.rights.proofs.Cases.{or-one}
 use Rattle.tag.specs.Rules.{blocksOf}
 use Rattle.record.specs.declared.Tag.{Tag}
 use Rattle.record.specs.declared.Outcome.{Outcome}
 use Rattle.tag.specs.Step.{Event}
-use Rattle.tag.specs.Host.{isMemory, fitsImage, EventGiven, eventGiven, EventGives, LoadGiven, loadGiven, LoadGives, SaveGiven, saveGiven, SaveGives}
+use Rattle.tag.specs.Host.{isMemory, EventGiven, eventGiven, EventGives, LoadGiven, loadGiven, LoadGives, SaveGiven, saveGiven, SaveGives}
 
 -- the blocks of a memory, from its last end
 pub blocks-by-end : (m : List ℕ) → isMemory m ≡ true → blocksOf m ≡ 8 * ((if eqb (length m) 2048 then 63 else 255) + 1)
@@ -21,9 +21,6 @@ blocks-by-end m h =
     or-one (eqb (length m) 2048) (eqb (length m) 8192) h
     (λ e. rw (eqb-true (length m) 2048 e))
     (λ e. rw (eqb-true (length m) 8192 e))
-
-pub fitting : (m i : List ℕ) → fitsImage m i ≡ true → (isMemory m ≡ true) × (length i ≡ 64 + length m)
-fitting m i h = let e = both (isMemory m) (eqb (length i) (64 + length m)) h in (e .0, eqb-true _ _ (e .1))
 
 -- ---- a call that gives what the definition names
 

@@ -1,10 +1,9 @@
 -- Acts of the definition, from what a function of the code promised.
 -- Assumes nothing.
-use Prim.Native.Nat.{ℕ, zero, suc, _+_}
+use Prim.Native.Nat.{ℕ}
 use mathlib.Core.Bool.{Bool, true, false, _&&_}
 use mathlib.Core.Path.{_≡_, refl, sym, ap, subst}
 use mathlib.Core.List.{List, [], _∷_}
-use lib.ListN.{drop}
 use Rattle.put.specs.If.{if_then_else_}
 use Rattle.put.specs.Put.{Put}
 use Rattle.rights.specs.declared.Keys.{Keys}
@@ -30,6 +29,7 @@ use Rattle.tag.specs.Blocks.{taken, blockUnits}
 use Rattle.tag.specs.Commands.{frontAfter, actOf, isHolding, requestOf}
 use Rattle.tag.specs.Rules.{blocksOf}
 use Rattle.tag.specs.Step.{fieldOn, fieldOff, roundEnds, frameEnds, workOf, lineOf, performed, step}
+use Rattle.tag.proofs.Acts.{blocks-leave}
 use Rattle.step.specs.declared.Said.{Said}
 use Rattle.step.specs.Gives.{Gives, Does, concluded}
 
@@ -67,15 +67,10 @@ module _ (hold : Bool) (t : Tag) {x x′ : List ℕ} {r : Said} where
       written v (register address value ∷ []) (λ m. refl)
       (rw (write-is, kept-over (λ (u : Vault). withVault t u) v (t .vault) (withRegister (t .vault) address value)) at d)
 
--- blocks touch the memory alone
-units-tag : (b n : ℕ) (bytes : List ℕ) (t : Tag) → applyToTag (blockUnits b n bytes) t ≡ t
-unfolding blockUnits applyToTag
-units-tag b zero bytes t = refl
-units-tag b (suc n) bytes t = units-tag (b + 1) n (drop 4 bytes) t
-
+-- and blocks, which touch the memory alone
 pub blocks-written : (hold : Bool) (t : Tag) (first n : ℕ) (bytes m m′ : List ℕ) {x x′ : List ℕ} {r : Said} → m′ ≡ applyToMemory (blockUnits first n bytes) m → Does hold t (says (verdict Success)) x x′ r → Gives (concluded hold (perform t m (writes (blockUnits first n bytes)))) x m′ x′ r
 unfolding perform
-blocks-written hold t first n bytes m m′ e d = rw (units-tag first n bytes t, ← e) (d m′)
+blocks-written hold t first n bytes m m′ e d = rw (blocks-leave first n bytes t, ← e) (d m′)
 
 -- a request by its command
 request-is : (f : Front) (v : View) (blocks : ℕ) (e : Entry) (option : Bool) (fields : List ℕ) {c : Command} → e .command ≡ c → requestOf f v blocks e option fields ≡ record { front = frontAfter c f; hold = option && isHolding (e .option); act = actOf c f v blocks e option fields }

@@ -1,36 +1,19 @@
--- Rows of the command table.
+-- The rows of the command table that write: their fields hold the bytes of their blocks.
 -- Assumes nothing.
 use mathlib.Core.Path.{_≡_, refl}
-use mathlib.Core.Bool.{Bool, true}
+use mathlib.Core.Bool.{Bool}
 use mathlib.Core.List.{List}
-use Prim.Native.Nat.{ℕ, _+_, _*_, _≤_}
-use native.Mathlib.Nat.{le-refl}
+use Prim.Native.Nat.{ℕ, _+_, _*_}
 use native.Mathlib.Omega.{arith}
-use lib.Dec.{ltb, eqb}
-use lib.ListN.{length}
-use borrow.Author.Tests.{ltb-false, eqb-true}
+use lib.Dec.{eqb}
 use Rattle.put.specs.If.{if_then_else_}
-use Rattle.rights.proofs.Cases.{if-one, or-one}
-use Rattle.tag.specs.declared.Command.{Command}
+use Rattle.rights.proofs.Cases.{if-one}
 use Rattle.tag.specs.declared.Command.the-variants as command
 use Rattle.tag.specs.declared.Entry.{Entry}
-use Rattle.tag.specs.Table.{entryOf, moreOf, headOf, limitOf, lengthOf}
+use Rattle.tag.specs.Table.{entryOf, moreOf, headOf, lengthOf}
 use Rattle.tag.specs.Frame.{codeOf, fieldsFrom}
 use Rattle.frame.proofs.Requested.{Requested}
-use Rattle.tag.specs.Host.{isMemory}
 use Rattle.step.specs.Gives.{DataThere}
-
-pub limit-within : (e : Entry) (blocks : ℕ) → limitOf e blocks ≤ blocks
-unfolding limitOf
-limit-within e blocks =
-    if-one (λ (n : ℕ). n ≤ blocks) (e .wide) (λ h. le-refl blocks)
-    (λ h. if-one (λ (n : ℕ). n ≤ blocks) (ltb blocks 0x100) (λ k. le-refl blocks) (λ k. ltb-false blocks 0x100 k))
-
-pub memory-bounds : (m : List ℕ) → isMemory m ≡ true → (2048 ≤ length m) × (length m ≤ 8192)
-memory-bounds m h =
-    or-one (eqb (length m) 2048) (eqb (length m) 8192) h
-    (λ e. let n = eqb-true (length m) 2048 e in (omega arith, omega arith))
-    (λ e. let n = eqb-true (length m) 8192 e in (omega arith, omega arith))
 
 -- every row of a write has fields as long as block number, count and the blocks' bytes
 record Whole (fields : List ℕ) (e : Entry) : Type 0 where

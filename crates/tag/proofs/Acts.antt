@@ -52,7 +52,7 @@ taken-fine e t m a Success c h k = k refl
 taken-fine e t m a (Error code) c h k = record { tag = c; answer = h }
 
 -- written blocks are no part of the record
-blocks-leave : (b n : ℕ) (bytes : List ℕ) (t : Tag) → applyToTag (blockUnits b n bytes) t ≡ t
+pub blocks-leave : (b n : ℕ) (bytes : List ℕ) (t : Tag) → applyToTag (blockUnits b n bytes) t ≡ t
 unfolding applyToTag blockUnits
 blocks-leave b zero bytes t = refl
 blocks-leave b (suc n) bytes t = blocks-leave (b + 1) n (drop 4 bytes) t

@@ -1,7 +1,7 @@
 -- Bytes stay bytes: from a record whose numbers are in their ranges, a memory of bytes and frames of bytes come such a record, such a
 -- memory and answers of bytes; and so do images.
 -- Assumes nothing.
-use Prim.Native.Nat.{ℕ, zero, suc, _+_, _-_, _^_, _≤_, _<_}
+use Prim.Native.Nat.{ℕ, zero, suc, _+_, _-_, _^_, _<_}
 use mathlib.Core.Path.{refl}
 use mathlib.Core.Bool.{Bool, true, false}
 use mathlib.Core.List.{List, [], _∷_, map}
@@ -42,8 +42,9 @@ use Rattle.tag.specs.Inventory.{oneSlot, maskAt, maskLength, slotOf, inS
 use Rattle.tag.specs.Blocks.{taken, readVerdict, statuses, statusVerdict, writeVerdict, blockUnits, lockVerdict}
 use Rattle.tag.specs.Commands.{frontAfter, unless, registerAnswer, actOf, requestOf}
 use Rattle.tag.specs.Step.{Event, fieldOn, fieldOff, endOfFrame, request, dropped, workHeard, frameOf, roundEnds, frameEnds, workOf, sealed, lineOf, Stepped, settled, step, Ran, run}
-use Rattle.tag.specs.Image.{oneIf, markOf, lockByte, tagIn, headerOf, imageOf, factory}
+use Rattle.tag.specs.Image.{markOf, lockByte, tagIn, headerOf, imageOf, factory}
 use Rattle.tag.proofs.Lengths.{carried}
+use Rattle.tag.proofs.Locks.{at-most-one}
 use Rattle.tag.proofs.Codes.{Coded, read-coded, status-coded, write-coded, lock-coded, unless-coded, changed-coded, written-coded}
 use Rattle.tag.proofs.Ranges.{roundBytes, heldBytes, RangedFront, Ranged, state-ranged, round-ranged, held-ranged, cleared-ranged, block-in, register-in, afi-in, dsfid-in, block-lock-in, afi-lock-in, dsfid-lock-in, password-in, RangedUnit, RangedUnits, no-unit, unit-and, RangedAct, says-in, lists-in, presents-in, writes-in, closes-in, verdict-bytes, perform-ranged}
 
@@ -282,10 +283,6 @@ run-ranged (e ∷ es) r q (first-and p ps) =
 
 -- ---- images
 
-one-most : (b : Bool) → oneIf b ≤ 1
-one-most true = omega arith
-one-most false = omega arith
-
 -- a record in range is saved as bytes
 pub header-bytes : (size : ℕ) {t : Tag} → Ranged t → Bytes (headerOf size t)
 unfolding headerOf
@@ -293,7 +290,7 @@ header-bytes size {t} r =
     let f = t .front in
     let v = t .vault in
     let mark : markOf size < 256 = if-one (λ (n : ℕ). n < 256) (eqb size 2048) (λ e. omega arith) (λ e. omega arith) in
-    let locks : lockByte t < 256 = omega (arith, one-most (v .lock0), one-most (v .lock1), one-most (f .lockafi), one-most (f .lockdsfid), one-most (v .lockcfg)) in
+    let locks : lockByte t < 256 = omega (arith, at-most-one (v .lock0), at-most-one (v .lock1), at-most-one (f .lockafi), at-most-one (f .lockdsfid), at-most-one (v .lockcfg)) in
     let password : (n : ℕ) → Bytes (bytesOf 8 (getD (v .keys .passwords) n 0)) = λ n. bytes-of 8 (getD (v .keys .passwords) n 0) in
     below-append
     (below-append

@@ -8,15 +8,17 @@ use mathlib.Core.Bool.{true, false, not}
 use mathlib.Core.List.{List}
 use lib.ListN.{length, drop, length-drop}
 use lib.Dec.{ltb}
-use borrow.Author.Tests.{eqb-true, not-false}
-use Rattle.rights.proofs.Cases.{if-one, both}
+use borrow.Author.Tests.{not-false}
+use Rattle.rights.proofs.Cases.{if-one}
 use Rattle.record.specs.declared.Tag.{Tag}
 use Rattle.record.specs.declared.Outcome.{Outcome}
 use Rattle.tag.specs.Rules.{blocksOf, sound}
 use Rattle.tag.specs.Step.{Event}
 use Rattle.tag.specs.Image.{headerLength, tagIn, headerRule}
 use Rattle.tag.specs.Host.{isMemory, fitsImage, leastRoom, isImage, EventGiven, eventGiven, EventGives, LoadGiven, loadGiven, LoadGives, SaveGiven, saveGiven, SaveGives}
-use Rattle.tag.proofs.Sound.{stays-sound, loaded-sound}
+use Rattle.tag.proofs.Sizes.{fitting}
+use Rattle.tag.proofs.Sound.{stays-sound}
+use Rattle.tag.proofs.Headers.{header-rules, sound-in}
 
 module _ (t : Tag) where
   pub event-sound : (e : Event) (m x : List ℕ) {m′ x′ : List ℕ} {r : Outcome} → EventGives t e m x m′ x′ r → sound (blocksOf m) t ≡ true → sound (blocksOf m′) (r .tag) ≡ true
@@ -41,9 +43,9 @@ module _ (t : Tag) where
 
       loaded : not (fitsImage m i) ≡ false → not (headerRule (blocksOf m) i) ≡ false → sound (blocksOf (drop headerLength i)) (tagIn i) ≡ true
       loaded fits rule =
-          let whole = eqb-true (length i) (headerLength + length m) (both (isMemory m) _ (not-false _ fits) .1) in
+          let whole = fitting m i (not-false _ fits) .1 in
           let part : length (drop headerLength i) ≡ length m = simp length-drop (omega arith) in
-          rw part (loaded-sound (blocksOf m) i (not-false _ rule))
+          rw part (sound-in (header-rules (not-false _ rule)))
 
       given : After (loadGiven t i m)
       given =

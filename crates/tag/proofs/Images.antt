@@ -3,18 +3,19 @@
 use Prim.Native.Nat.{ℕ, _+_, _<_}
 use native.Mathlib.Omega.{arith}
 use mathlib.Core.Path.{_≡_, refl}
-use mathlib.Core.Bool.{Bool, true, false, not, _||_}
+use mathlib.Core.Bool.{Bool, true, false, not}
 use mathlib.Core.List.{List}
 use lib.ListN.{length, getD, drop, length-drop}
 use lib.Dec.{eqb}
 use borrow.Author.Tests.{eqb-true, eq-eqb}
 use Rattle.put.specs.If.{if_then_else_}
-use Rattle.rights.proofs.Cases.{or-true, both, join}
+use Rattle.rights.proofs.Cases.{or-true, join, or-one}
 use Rattle.record.specs.declared.Tag.{Tag}
 use Rattle.record.specs.declared.Refusal.the-variants as refusal
 use Rattle.tag.specs.Rules.{blocksOf, sound}
 use Rattle.tag.specs.Image.{tagIn, headerRule, imageOf}
 use Rattle.tag.specs.Host.{isMemory, fitsImage, isImage, outcome, loadRefused, loadGiven, LoadGiven, saveGiven}
+use Rattle.tag.proofs.Sizes.{fitting}
 use Rattle.tag.proofs.Off.{sound-rules, nothing-passing}
 use Rattle.tag.proofs.Headers.{header-rules, sound-in, image-again, field-in, Lasting, tag-again, image-length, memory-again, header-right}
 
@@ -25,25 +26,20 @@ record Sized (m i : List ℕ) : Type 0 where
   memory : isMemory m ≡ true
   longer : length i ≡ 64 + length m
 
-either : {A : Type 0} (a b : Bool) → (a ≡ true → A) → (b ≡ true → A) → (a || b) ≡ true → A
-either true b p q h = p refl
-either false b p q h = q h
-
 module _ {m i : List ℕ} (s : Sized m i) where
   is-image : isImage i ≡ true
   is-image =
-      either (eqb (length m) 2048) (eqb (length m) 8192)
+      or-one (eqb (length m) 2048) (eqb (length m) 8192) (s .memory)
       (λ e. rw (eq-eqb (length i) 2112 (omega (arith, eqb-true (length m) 2048 e))))
       (λ e. rw (eq-eqb (length i) 8256 (omega (arith, eqb-true (length m) 8192 e)), or-true))
-      (s .memory)
 
   fits : fitsImage m i ≡ true
   fits = join (s .memory) (eq-eqb (length i) (64 + length m) (s .longer))
 
 sized : (m i : List ℕ) → fitsImage m i ≡ true → Sized m i
 sized m i h =
-    let p = both (isMemory m) (eqb (length i) (64 + length m)) h in
-    record { memory = p .0; longer = eqb-true _ _ (p .1) }
+    let p = fitting m i h in
+    record { memory = p .0; longer = p .1 }
 
 -- ---- calls that refuse nothing
 

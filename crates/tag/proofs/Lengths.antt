@@ -8,7 +8,7 @@ use mathlib.Core.List.{List, [], _∷_, _++_}
 use native.Mathlib.Omega.{arith}
 use lib.ListN.{length, getD, length-append}
 use lib.Dec.{ltb, eqb}
-use borrow.Author.Tests.{ltb-false, eqb-true}
+use borrow.Author.Tests.{ltb-false}
 use Rattle.put.proofs.Numbers.{length-bytes}
 use Rattle.crc.specs.Crc.{crcBytes}
 use Rattle.crc.proofs.Bytes.{crc-length}
@@ -20,7 +20,7 @@ use Rattle.rights.specs.declared.registers.RegisterRead.the-variants as read
 use Rattle.rights.specs.Vault.{viewOf}
 use Rattle.rights.specs.Passwords.{presentOf, presentedVerdict, changedOf, changedVerdict}
 use Rattle.rights.specs.Registers.{registerAt, writtenOf, writtenVerdict}
-use Rattle.rights.proofs.Cases.{if-one, or-one}
+use Rattle.rights.proofs.Cases.{if-one}
 use Rattle.record.specs.declared.Front.{Front}
 use Rattle.record.specs.declared.Tag.{Tag}
 use Rattle.record.specs.declared.Round.{Round}
@@ -42,6 +42,7 @@ use Rattle.tag.specs.Blocks.{taken, readVerdict, statusVerdict, writeVer
 use Rattle.tag.specs.Commands.{actOf, registerAnswer, unless, requestOf}
 use Rattle.tag.specs.Step.{Event, fieldOn, fieldOff, endOfFrame, request, dropped, workHeard, frameOf, roundEnds, frameEnds, workOf, sealed, lineOf, settled, step}
 use Rattle.tag.specs.Host.{isMemory, leastRoom}
+use Rattle.tag.proofs.Sizes.{memory-bounds}
 use Rattle.tag.proofs.Listing.{listing-within, statuses-within}
 
 -- ---- an answer: what stands in it between the first byte and the CRC
@@ -52,7 +53,7 @@ carried (verdict Success) = []
 carried (verdict (Error c)) = c ∷ []
 carried (body b) = b
 
-pub sealed-length : (s : List ℕ) → length (sealed s) ≡ length s + 2
+sealed-length : (s : List ℕ) → length (sealed s) ≡ length s + 2
 sealed-length s = simp (length-append, crc-length)
 
 line-most : (a : Answer) → length (lineOf a) ≤ length (carried a) + 3
@@ -103,9 +104,9 @@ register-fits : (r : RegisterRead) → Fits (registerAnswer r)
 register-fits read.Unknown = omega arith
 register-fits (read.Value x) = omega arith
 
-limit-most : (e : Entry) (blocks : ℕ) → limitOf e blocks ≤ blocks
+pub limit-within : (e : Entry) (blocks : ℕ) → limitOf e blocks ≤ blocks
 unfolding limitOf
-limit-most e blocks =
+limit-within e blocks =
     if-one (λ (n : ℕ). n ≤ blocks) (e .wide) (λ w. omega arith) (λ w.
     if-one (λ (n : ℕ). n ≤ blocks) (ltb blocks 0x100) (λ h. omega arith) (λ h. ltb-false blocks 0x100 h))
 
@@ -113,7 +114,7 @@ act-fits : (c : Command) (t : Front) (v : View) (blocks : ℕ) (e : Entry) (opti
 unfolding actOf
 act-fits StayQuiet t v blocks e option fields h = omega arith
 act-fits Read t v blocks e option fields h =
-    taken-fits (readVerdict v (limitOf e blocks) (firstOf e fields)) _ (omega (arith, limit-most e blocks))
+    taken-fits (readVerdict v (limitOf e blocks) (firstOf e fields)) _ (omega (arith, limit-within e blocks))
 act-fits Write t v blocks e option fields h =
     write-fits (writeVerdict v (limitOf e blocks) (firstOf e fields) (moreOf e fields)) _
 act-fits Lock t v blocks e option fields h = write-fits (lockVerdict v (firstOf e fields)) _
@@ -125,7 +126,7 @@ act-fits WriteDsfid t v blocks e option fields h = write-fits (unless (t .lockds
 act-fits LockDsfid t v blocks e option fields h = write-fits (unless (t .lockdsfid) 0x11) _
 act-fits Status t v blocks e option fields h =
     taken-fits (statusVerdict (limitOf e blocks) (firstOf e fields)) _
-    (omega (arith, limit-most e blocks, statuses-within v (limitOf e blocks) (firstOf e fields) (moreOf e fields + 1)))
+    (omega (arith, limit-within e blocks, statuses-within v (limitOf e blocks) (firstOf e fields) (moreOf e fields + 1)))
 act-fits ReadRegister t v blocks e option fields h = register-fits (registerAt v (getD fields 0 0))
 act-fits WriteRegister t v blocks e option fields h =
     write-fits (writtenVerdict (writtenOf (lastEnd blocks) v (getD fields 0 0) (getD fields 1 0))) _
@@ -177,18 +178,13 @@ work-fits t v blocks endOfFrame h = if-one FitsWork (t .field) (λ e. end-fits (
 work-fits t v blocks (request f) h =
     if-one FitsWork (t .field) (λ e. heard-fits (heardOf (dropped t) f) (dropped t) v blocks f h) (λ e. omega arith)
 
-memory-most : (m : List ℕ) → isMemory m ≡ true → length m ≤ 8192
-memory-most m h =
-    or-one (eqb (length m) 2048) (eqb (length m) 8192) h (λ e. omega (arith, eqb-true (length m) 2048 e))
-    (λ e. omega (arith, eqb-true (length m) 8192 e))
-
 -- the theorem: what is answered fits the least room
 pub answer-most : (t : Tag) (m : List ℕ) (e : Event) → isMemory m ≡ true → length (step t m e .answer) ≤ leastRoom
 unfolding step
 answer-most t m e h =
     let w = workOf (t .front) (viewOf (t .vault)) (blocksOf m) e in
     let d = perform (withFront t (w .front)) m (w .act) in
-    let f : FitsWork w = work-fits (t .front) (viewOf (t .vault)) (blocksOf m) e (omega (arith, memory-most m h)) in
+    let f : FitsWork w = work-fits (t .front) (viewOf (t .vault)) (blocksOf m) e (omega (arith, memory-bounds (length m) h .1)) in
     omega (arith, f, perform-most (withFront t (w .front)) m (w .act), settled-most (w .hold) (d .answer) (d .tag) (d .memory))
 
 -- ---- the CRC
@@ -218,7 +214,3 @@ answer-sealed t m e =
     let w = workOf (t .front) (viewOf (t .vault)) (blocksOf m) e in
     let d = perform (withFront t (w .front)) m (w .act) in
     settled-sealed (w .hold) (d .answer) (d .tag) (d .memory)
-
--- so what is not silence has at least three bytes
-pub sealed-least : {answer : List ℕ} → Sealed answer → 3 ≤ length answer
-sealed-least s = rw (s .is, sealed-length (s .rest)) (omega arith)

@@ -10,6 +10,7 @@ use native.Mathlib.Omega.{arith}
 use lib.ListN.{length, length-append, length-take, length-drop}
 use lib.Dec.{ltb}
 use borrow.Author.Tests.{ltb-true, lt-ltb, le-ltb}
+use Rattle.put.specs.If.{if_then_else_}
 use Rattle.rights.specs.declared.View.{View}
 use Rattle.rights.specs.Blocks.{readableAt, statusAt}
 use Rattle.rights.proofs.Cases.{if-one, both}
@@ -21,21 +22,14 @@ use Rattle.tag.specs.Blocks.{statuses}
 bytes-most : (m : List ℕ) (b : ℕ) → length (shown m b) ≤ 4
 bytes-most m b = simp length-take (omega arith)
 
-pub shown-most : (v : View) (m : List ℕ) (b : ℕ) (status : Bool) → length (blockShown v m b status) ≤ 5
+shown-most : (v : View) (m : List ℕ) (b : ℕ) (status : Bool) → length (blockShown v m b status) ≤ 5
 shown-most v m b true = omega (arith, bytes-most m b)
 shown-most v m b false = omega (arith, bytes-most m b)
 
 -- a block that lies in the memory has four bytes, or five with its status
-abbrev pub blockLength : Bool → ℕ
-blockLength true = 5
-blockLength false = 4
-
-pub shown-length : (m : List ℕ) (b : ℕ) → 4 * b + 4 ≤ length m → length (shown m b) ≡ 4
-shown-length m b h = simp (length-take, length-drop) (omega arith)
-
-pub block-length : (v : View) (m : List ℕ) (b : ℕ) (status : Bool) → 4 * b + 4 ≤ length m → length (blockShown v m b status) ≡ blockLength status
-block-length v m b true h = omega (arith, shown-length m b h)
-block-length v m b false h = shown-length m b h
+pub block-length : (v : View) (m : List ℕ) (b : ℕ) (status : Bool) → 4 * b + 4 ≤ length m → length (blockShown v m b status) ≡ (if status then 5 else 4)
+block-length v m b true h = simp (length-take, length-drop) (omega arith)
+block-length v m b false h = simp (length-take, length-drop) (omega arith)
 
 -- ---- a listing
 
@@ -56,15 +50,7 @@ module _ (v : View) (m : List ℕ) (limit b : ℕ) where
   listing-more zero status h l e = absurd (omega arith)
   listing-more (suc n) status h l e = rw (lt-ltb b limit l, e, sub-one)
 
--- at most five bytes for each block that is asked for, and for each block below the limit
-pub listing-length : (v : View) (m : List ℕ) (limit b n : ℕ) (status : Bool) → length (listing v m limit b n status) ≤ 5 * n
-unfolding listing
-listing-length v m limit b zero status = omega arith
-listing-length v m limit b (suc n) status =
-    if-one (λ (l : List ℕ). length l ≤ 5 * suc n) (ltb b limit && readableAt v b)
-    (λ e. simp length-append (omega (arith, shown-most v m b status, listing-length v m limit (b + 1) n status)))
-    (λ e. omega arith)
-
+-- at most five bytes for each block below the limit
 pub listing-within : (v : View) (m : List ℕ) (limit b n : ℕ) (status : Bool) → length (listing v m limit b n status) ≤ 5 * (limit - b)
 unfolding listing
 listing-within v m limit b zero status = omega arith
@@ -91,13 +77,7 @@ module _ (v : View) (limit b : ℕ) where
   statuses-more zero h l = absurd (omega arith)
   statuses-more (suc n) h l = rw (lt-ltb b limit l, sub-one)
 
--- at most one byte for each block that is asked for, and for each block below the limit
-pub statuses-length : (v : View) (limit b n : ℕ) → length (statuses v limit b n) ≤ n
-unfolding statuses
-statuses-length v limit b zero = omega arith
-statuses-length v limit b (suc n) =
-    if-one (λ (l : List ℕ). length l ≤ suc n) (ltb b limit) (λ e. omega (arith, statuses-length v limit (b + 1) n)) (λ e. omega arith)
-
+-- at most one byte for each block below the limit
 pub statuses-within : (v : View) (limit b n : ℕ) → length (statuses v limit b n) ≤ limit - b
 unfolding statuses
 statuses-within v limit b zero = omega arith

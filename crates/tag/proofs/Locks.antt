@@ -30,7 +30,7 @@ bits-byte n h =
 
 -- ---- from bits to their byte
 
-at-most-one : (b : Bool) → oneIf b ≤ 1
+pub at-most-one : (b : Bool) → oneIf b ≤ 1
 at-most-one true = omega arith
 at-most-one false = omega arith
 

@@ -28,7 +28,7 @@ use Rattle.tag.specs.Work.{Answer, silence, verdict, body, Work, perform
 use Rattle.tag.specs.Inventory.{oneSlot, maskLength, maskTooLong, wrongLength, unheard, inventoryOf, nextSlot}
 use Rattle.tag.specs.Commands.{isHolding, requestOf}
 use Rattle.tag.specs.Step.{Event, fieldOn, fieldOff, endOfFrame, request, dropped, workHeard, frameOf, roundEnds, frameEnds, workOf, settled, performed, step, run}
-use Rattle.tag.specs.Image.{areasIn, tagIn, markRule, lockRule, headerRule, factory}
+use Rattle.tag.specs.Image.{factory}
 use Rattle.tag.proofs.Sizes.{memory-kept}
 use Rattle.tag.proofs.Live.{Live, Clear, registers-possible, sound-live, live-sound, clear-live}
 use Rattle.tag.proofs.Acts.{Sayable, act-fine}
@@ -175,10 +175,3 @@ run-sound t m (e ∷ es) h = run-sound (step t m e .tag) (step t m e .memory) es
 pub factory-sound : (blocks uid : ℕ) → sound blocks (factory (lastEnd blocks) uid) ≡ true
 unfolding sound offRule roundRule heldRule togetherRule factory
 factory-sound blocks uid = join (all-at-end (lastEnd blocks)) refl
-
--- and so is a loaded one
-pub loaded-sound : (blocks : ℕ) (i : List ℕ) → headerRule blocks i ≡ true → sound blocks (tagIn i) ≡ true
-unfolding sound offRule roundRule heldRule togetherRule headerRule tagIn
-loaded-sound blocks i h =
-    let p = both (markRule i && lockRule i) _ h .1 in
-    join (both (possible (lastEnd blocks) (areasIn i)) _ p .0) refl

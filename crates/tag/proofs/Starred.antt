@@ -7,7 +7,6 @@ use mathlib.Core.Bool.{Bool, true, false, _&&_}
 use mathlib.Core.List.{List, [], _∷_, _++_, reverse}
 use lib.ListN.{replicate}
 use lib.Dec.{eqb}
-use Rattle.put.specs.If.{if_then_else_}
 use Rattle.put.specs.Number.{numberAt, bytesOf}
 use Rattle.crc.specs.Crc.{crcBit, crcBits, crcByte, crcFrom, crcOf, crcBytes}
 use Rattle.rights.specs.declared.Areas.{Areas}

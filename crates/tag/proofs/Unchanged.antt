@@ -17,10 +17,12 @@ use Rattle.rights.proofs.Cases.{if-one, both}
 use Rattle.rights.proofs.Sessions.{present-keeps}
 use Rattle.rights.proofs.Hidden.{none-open, present-shut}
 use Rattle.record.specs.declared.Tag.{Tag}
+use Rattle.record.specs.Update.{withFront}
 use Rattle.tag.specs.Rules.{blocksOf}
-use Rattle.tag.specs.Work.{Answer, silence, verdict, body, Unit, block, register, afi, dsfid, blockLock, afiLock, dsfidLock, password, Act, says, lists, presents, writes, closes, unitOnTag, unitOnMemory, applyToTag, applyToMemory, perform}
-use Rattle.tag.specs.Step.{Event, settled, workOf, step, run}
+use Rattle.tag.specs.Work.{Unit, block, register, afi, dsfid, blockLock, afiLock, dsfidLock, password, Act, says, lists, presents, writes, closes, unitOnTag, unitOnMemory, applyToTag, applyToMemory, perform}
+use Rattle.tag.specs.Step.{Event, workOf, step, run}
 use Rattle.tag.specs.Secrecy.{hidden, guards, Shut, claimOf, presented, opens, unopened, Kept, Unchanged}
+use Rattle.tag.proofs.Sizes.{settled-kept}
 use Rattle.tag.proofs.Alike.{sets-other}
 use Rattle.tag.proofs.Harmless.{harmless, allHarmless, harmlessAct, work-harmless}
 
@@ -104,21 +106,15 @@ module _ (chosen : ℕ → Bool) where
     shut = record { closed = λ n g. none-open n };
   }
 
-  -- an answer that is held, or given at once, leaves vault and memory
-  settled-kept : (hold : Bool) (a : Answer) (v : Vault) (m : List ℕ) (t : Tag) (m′ : List ℕ) → Kept chosen v m (t .vault) m′
-      → Kept chosen v m (settled hold a t m′ .tag .vault) (settled hold a t m′ .memory)
-  settled-kept true (verdict d) v m t m′ k = k
-  settled-kept true silence v m t m′ k = k
-  settled-kept true (body b) v m t m′ k = k
-  settled-kept false a v m t m′ k = k
-
   pub kept-step : (t : Tag) (m : List ℕ) (e : Event) → ShutIn t → opens chosen (t .vault .keys) (presented t m e) ≡ false
       → Kept chosen (t .vault) m (step t m e .tag .vault) (step t m e .memory)
   unfolding step presented
   kept-step t m e shut never =
       let w = workOf (t .front) (viewOf (t .vault)) (blocksOf m) e in
       let fine = work-harmless chosen (viewOf (t .vault)) shut (t .front) (blocksOf m) e in
-      settled-kept (w .hold) _ (t .vault) m _ _ (kept-act (w .act) _ m shut fine never)
+      let d = perform (withFront t (w .front)) m (w .act) in
+      let same = settled-kept (w .hold) (d .answer) (d .tag) (d .memory) in
+      rw (same .0, same .1) (kept-act (w .act) _ m shut fine never)
 
   pub unchanged : Unchanged chosen
   unfolding run unopened

@@ -8,7 +8,6 @@ use lib.Dec.{ltb, eqb}
 use Rattle.put.specs.If.{if_then_else_}
 use Rattle.put.specs.Number.{numberAt, bytesOf}
 use Rattle.record.specs.declared.Front.{Front}
-use Rattle.record.specs.declared.Round.{Round}
 use Rattle.record.specs.declared.Round.the-variants as round
 use Rattle.record.specs.Update.{withRound}
 use Rattle.tag.specs.Rules.{isQuiet}

@@ -6,7 +6,6 @@ use mathlib.Core.List.{List}
 use lib.ListN.{length}
 use lib.Dec.{leb, eqb}
 use Rattle.rights.specs.declared.Session.{Session}
-use Rattle.rights.specs.declared.Verdict.{Verdict}
 use Rattle.rights.specs.declared.Verdict.the-variants as verdict
 use Rattle.rights.specs.Passwords.{anyOpen}
 use Rattle.rights.specs.Registers.{possible}

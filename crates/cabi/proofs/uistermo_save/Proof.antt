@@ -3,7 +3,8 @@
 use mathlib.Core.Path.{refl, sym, _∙_}
 use borrow.Author.Tests.{not-false}
 use Rattle.record.specs.declared.Refusal.the-variants.{Memory, Record, Image}
-use Rattle.host.proofs.Lent.{blocks-by-end, fitting}
+use Rattle.tag.proofs.Sizes.{fitting}
+use Rattle.host.proofs.Lent.{blocks-by-end}
 use Rattle.cabi.specs.Calls.{saveStays, saveLeft}
 use Rattle.cabi.proofs.Left.{save-by, save-taken}
 use borrow.Author.Needs.{needs}

@@ -1,9 +1,8 @@
 -- `host::fits_image` meets its contract.
 -- Assumes nothing.
-use borrow.Author.Tests.{not-true, not-false, eqb-true}
+use borrow.Author.Tests.{not-true, not-false}
 use mathlib.Core.Path.{sym, _∙_}
-use lib.Dec.{eqb}
-use Rattle.rights.proofs.Cases.{or-one}
+use Rattle.tag.proofs.Sizes.{memory-bounds}
 use borrow.Author.Needs.{needs}
 use native.Mathlib.Omega.{arith}
 use Rattle.host.proofs.fits_image.Statement.{statement}
@@ -15,5 +14,5 @@ fits-image-spec =
     (tie.spec
     (λ c κs. search needs)
     (λ c. rw (← c .before .is-memory .ensures, not-true (c .before .is-memory .result) (c .if1 .taken)))
-    (λ c. or-one (eqb (c .before .before .args .size) 2048) (eqb (c .before .before .args .size) 8192) (sym (c .before .is-memory .ensures) ∙ not-false _ (c .if1 .left)) (λ e. omega (arith, eqb-true (c .before .before .args .size) 2048 e)) (λ e. omega (arith, eqb-true (c .before .before .args .size) 8192 e)))
+    (λ c. omega (arith, memory-bounds (c .before .before .args .size) (sym (c .before .is-memory .ensures) ∙ not-false _ (c .if1 .left)) .1))
     (λ c. rw (← c .before .is-memory .ensures, not-false (c .before .is-memory .result) (c .if1 .left))))

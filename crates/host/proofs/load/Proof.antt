@@ -6,7 +6,8 @@ use borrow.Author.Tests.{not-false}
 use Rattle.record.specs.declared.Refusal.the-variants.{None, Memory, Image, Header}
 use Rattle.tag.specs.Image.{tagIn}
 use Rattle.tag.specs.Host.{outcome, loadRefused, loadGiven}
-use Rattle.host.proofs.Lent.{blocks-by-end, fitting, load-by}
+use Rattle.tag.proofs.Sizes.{fitting}
+use Rattle.host.proofs.Lent.{blocks-by-end, load-by}
 use borrow.Author.Needs.{needs}
 use Rattle.host.proofs.load.Statement.{statement}
 use Rattle.host.proofs.load.Tie as tie

@@ -7,7 +7,8 @@ use borrow.Author.Tests.{not-false}
 use Rattle.record.specs.declared.Refusal.the-variants.{None, Memory, Image, Record}
 use Rattle.tag.specs.Image.{imageOf}
 use Rattle.tag.specs.Host.{outcome, saveRefused, saveGiven}
-use Rattle.host.proofs.Lent.{blocks-by-end, fitting, save-by}
+use Rattle.tag.proofs.Sizes.{fitting}
+use Rattle.host.proofs.Lent.{blocks-by-end, save-by}
 use borrow.Author.Needs.{needs}
 use Rattle.host.proofs.save.Statement.{statement}
 use Rattle.host.proofs.save.Tie as tie

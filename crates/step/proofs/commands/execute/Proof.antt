@@ -4,10 +4,11 @@ use Rattle.record.specs.declared.State.the-variants.{Quiet}
 use Rattle.record.specs.Update.{withState, withFront}
 use Rattle.tag.specs.Commands.{actOf}
 use Rattle.step.proofs.Acts.{quiet, request-gives}
-use Rattle.step.proofs.Rows.{memory-bounds}
+use Rattle.tag.proofs.Sizes.{memory-bounds}
 use Rattle.tag.specs.Work.{perform}
 use borrow.Author.Needs.{needs}
 use native.Mathlib.Omega.{arith}
+use lib.ListN.{length}
 use Rattle.step.proofs.commands.execute.Statement.{statement}
 use Rattle.step.proofs.commands.execute.Tie as tie
 
@@ -21,7 +22,7 @@ execute-spec =
     (λ c. search needs)
     (λ c κs. search needs)
     (λ c. search needs)
-    (λ c κs. (omega (arith, memory-bounds (c .before .before .before .before .before .before .before .before .before .args .memory .now) (c .before .before .before .before .before .before .before .before .before .pre .0) .1), c .before .before .before .before .before .before .before .before .before .pre .1 .0))
+    (λ c κs. (omega (arith, memory-bounds (length (c .before .before .before .before .before .before .before .before .before .args .memory .now)) (c .before .before .before .before .before .before .before .before .before .pre .0) .1), c .before .before .before .before .before .before .before .before .before .pre .1 .0))
     (λ c. search needs)
     (λ c κs. (c .before .before .before .before .before .before .before .before .before .pre .1 .1 (c .before .before .enum-told3 .given .1), omega (arith, c .before .before .before .before .before .before .before .before .before .pre .1 .0)))
     (λ c. search needs)
@@ -42,11 +43,11 @@ execute-spec =
     (λ c. search needs)
     (λ c κs. omega (arith, c .before .before .before .before .before .before .before .before .pre .1 .0))
     (λ c. search needs)
-    (λ c κs. (omega (arith, memory-bounds (c .before .before .before .before .before .before .before .before .args .memory .now) (c .before .before .before .before .before .before .before .before .pre .0) .1), c .before .before .before .before .before .before .before .before .pre .1 .0))
+    (λ c κs. (omega (arith, memory-bounds (length (c .before .before .before .before .before .before .before .before .args .memory .now)) (c .before .before .before .before .before .before .before .before .pre .0) .1), c .before .before .before .before .before .before .before .before .pre .1 .0))
     (λ c. search needs)
     (λ c κs. omega (arith, c .before .before .before .before .before .before .before .before .pre .1 .0))
     (λ c. search needs)
-    (λ c κs. (omega (arith, memory-bounds (c .before .before .before .before .before .before .before .args .memory .now) (c .before .before .before .before .before .before .before .pre .0) .0), omega (arith, memory-bounds (c .before .before .before .before .before .before .before .args .memory .now) (c .before .before .before .before .before .before .before .pre .0) .1)))
+    (λ c κs. (omega (arith, memory-bounds (length (c .before .before .before .before .before .before .before .args .memory .now)) (c .before .before .before .before .before .before .before .pre .0) .0), omega (arith, memory-bounds (length (c .before .before .before .before .before .before .before .args .memory .now)) (c .before .before .before .before .before .before .before .pre .0) .1)))
     (λ c κs. search needs)
     (λ c κs. omega (arith, c .before .before .before .before .before .before .before .before .before .before .pre .1 .0))
     (λ c. search needs)
