@@ -1,23 +1,16 @@
--- The blocks of a write, one after the other, are one run of bytes; and a write that is taken lies within the limit.
+-- The blocks of a write, one after the other, are one run of bytes.
 -- Assumes nothing.
 use mathlib.Core.Path.{_≡_, refl}
-use mathlib.Core.Bool.{Bool, true, false}
 use mathlib.Core.List.{List, [], _∷_, _++_, append-assoc}
-use Prim.Native.Nat.{ℕ, zero, suc, _+_, _-_, _*_, _≤_, _<_}
+use Prim.Native.Nat.{ℕ, zero, suc, _+_, _-_, _*_, _≤_}
 use native.Mathlib.Nat.{add-zero}
 use native.Mathlib.Omega.{arith}
-use borrow.Author.Tests.{ltb-false, leb-false}
-use lib.Dec.{leb, ltb}
 use lib.ListN.{length, take, drop, set, length-take, length-drop}
 use lib.Seq.{sets, sets-eq, take-add}
 use Rattle.put.specs.Put.{Put}
 use Rattle.put.proofs.Lists.{put-tail}
-use Rattle.put.specs.If.{if_then_else_}
-use Rattle.rights.specs.declared.View.{View}
-use Rattle.rights.specs.declared.Verdict.the-variants.{Success, Error}
-use Rattle.rights.specs.Blocks.{crossesAt, anyBarred}
 use Rattle.tag.specs.Work.{applyToMemory}
-use Rattle.tag.specs.Blocks.{writeVerdict, blockUnits}
+use Rattle.tag.specs.Blocks.{blockUnits}
 
 sets-append : (xs ys m : List ℕ) (i : ℕ) → sets m i (xs ++ ys) ≡ sets (sets m i xs) (i + length xs) ys
 sets-append [] ys m i = rw add-zero
@@ -39,15 +32,3 @@ pub units-put : (m bytes : List ℕ) (n b : ℕ) {ys : List ℕ} {k : ℕ} → 4
 units-put m bytes n b {ys} h room p =
     let fits : 4 * b + length (take (4 * n) bytes) ≤ length m = simp length-take (omega arith) in
     rw (put-tail m ys (take (4 * n) bytes) (4 * b) (p .is), units-run n b bytes m h, sets-eq (take (4 * n) bytes) m (4 * b) fits, append-assoc)
-
--- what a caller that matched Success knows of the run
-pub write-taken : (v : View) (limit first more : ℕ) → writeVerdict v limit first more ≡ Success → (more < 4) × (first + more < limit)
-unfolding writeVerdict
-write-taken v limit first more e =
-    let f = go (ltb 4 (more + 1)) (leb limit (first + more)) (crossesAt (v .areas) first more) (anyBarred v first (more + 1)) e in
-    (omega (arith, ltb-false 4 (more + 1) (f .0)), leb-false limit (first + more) (f .1))
-  where
-    go : (many outside crossed barred : Bool) → (if many then Error 0x0F else if outside then Error 0x10 else if crossed then Error 0x0F else if barred then Error 0x12 else Success) ≡ Success → (many ≡ false) × (outside ≡ false)
-    go true outside crossed barred e = let z : _≡_ {A = ℕ} 0 1 = cc in absurd (omega arith)
-    go false true crossed barred e = let z : _≡_ {A = ℕ} 0 1 = cc in absurd (omega arith)
-    go false false crossed barred e = (refl, refl)

@@ -12,12 +12,12 @@ use put::byte_at;
 use put::number2;
 use put::number8;
 use record::Front;
-use record::State;
+use record::is_quiet;
+use record::is_selected;
 use tag::Command;
 use tag::OptionRule;
 ghost use mathlib.Core.Path.{_≡_};
 ghost use Prim.Native.Nat.{_≤_};
-ghost use Rattle.tag.specs.Rules.{isQuiet, isSelected};
 ghost use Rattle.tag.specs.Frame.{endOf, fieldsAt, check2, check3, check4, check5, otherUid, check6, selectOfAnother, unlisted, check7, check8, addressedOnly, check9, takesNone, check10};
 
 // "Under 4 bytes, or wrong CRC: silence."
@@ -59,26 +59,6 @@ fn other_uid(front: Front, frame: &[u8]) -> bool
     ensures { λ r. ⌜ r ≡ otherUid front (now (frame .entry)) ⌝ }
 {
     (end_of(frame) < fields_at(frame)) | !(number8(frame, after_code(frame)) == front.uid)
-}
-
-pub fn is_quiet(s: State) -> bool
-    ensures { λ r. ⌜ r ≡ isQuiet s ⌝ }
-{
-    match s {
-        State::Ready => false,
-        State::Quiet => true,
-        State::Selected => false,
-    }
-}
-
-fn is_selected(s: State) -> bool
-    ensures { λ r. ⌜ r ≡ isSelected s ⌝ }
-{
-    match s {
-        State::Ready => false,
-        State::Quiet => false,
-        State::Selected => true,
-    }
 }
 
 // "Select_flag (bit 5) and Address_flag (bit 6) both set: silence. Addressed: UID missing or not ours is silence .. Select only: silence

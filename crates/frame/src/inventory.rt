@@ -1,10 +1,10 @@
 // "Inventory": its fields, and whether the tag hears it.
-use super::checks::is_quiet;
 use super::places::end_of;
 use super::places::flag_bit;
 use put::byte_at;
 use put::number8;
 use record::Front;
+use record::is_quiet;
 ghost use mathlib.Core.Path.{_≡_};
 ghost use Prim.Native.Nat.{_-_, _/_, _%_, _^_};
 ghost use lib.ListN.{getD};

@@ -2,8 +2,11 @@
 use record::Front;
 use record::Held;
 use record::Round;
-use record::State;
 use record::Tag;
+use record::is_quiet;
+use record::is_ready;
+use record::no_round;
+use record::none_held;
 use rights::Session;
 use rights::Verdict;
 use rights::passwords::any_open;
@@ -11,45 +14,7 @@ use rights::registers::possible_areas;
 ghost use mathlib.Core.Path.{_≡_};
 ghost use Prim.Native.Nat.{_+_, _*_};
 ghost use Rattle.record.specs.declared.Held.the-variants.{Answer};
-ghost use Rattle.tag.specs.Rules.{isReady, isQuiet, noRound, noneHeld, offRule, roundRule, isCode, heldRule, togetherRule, sound};
-
-fn is_ready(s: State) -> bool
-    ensures { λ r. ⌜ r ≡ isReady s ⌝ }
-{
-    match s {
-        State::Ready => true,
-        State::Quiet => false,
-        State::Selected => false,
-    }
-}
-
-fn is_quiet(s: State) -> bool
-    ensures { λ r. ⌜ r ≡ isQuiet s ⌝ }
-{
-    match s {
-        State::Ready => false,
-        State::Quiet => true,
-        State::Selected => false,
-    }
-}
-
-fn no_round(r: Round) -> bool
-    ensures { λ b. ⌜ b ≡ noRound r ⌝ }
-{
-    match r {
-        Round::None => true,
-        Round::Open { slot: _, mask: _ } => false,
-    }
-}
-
-fn none_held(h: Held) -> bool
-    ensures { λ r. ⌜ r ≡ noneHeld h ⌝ }
-{
-    match h {
-        Held::None => true,
-        Held::Answer(_) => false,
-    }
-}
+ghost use Rattle.tag.specs.Rules.{offRule, roundRule, isCode, heldRule, togetherRule, sound};
 
 // "With the field off nothing passing is set and the state is Ready."
 fn off_rule(f: Front, s: Session) -> bool

@@ -9,7 +9,8 @@ ghost use Prim.Native.Nat.{_+_, _≤_};
 ghost use lib.ListN.{length, replicate};
 ghost use Rattle.put.specs.Put.{Put};
 ghost use Rattle.put.specs.Number.{bytesOf};
-ghost use Rattle.tag.specs.Image.{markOf, oneIf, lockByte, registersOf, passwordBytes, headerOf, imageOf};
+ghost use Rattle.rights.specs.Registers.{registersOf};
+ghost use Rattle.tag.specs.Image.{markOf, oneIf, lockByte, passwordBytes, headerOf, imageOf};
 
 pub fn one_if(set: bool) -> u8
     ensures { λ r. ⌜ (r ≡ oneIf set) × (r ≤ 1) ⌝ }

@@ -1,11 +1,12 @@
 // The tag's record by value, in two halves: what any reader may learn (Front), and what guards the memory (Vault, of `rights`).
 // Lasting: UID, AFI, DSFID, five lock bits, seven area registers, four passwords. Passing: field, state, the open session, an inventory
-// round, a held answer. User memory is lent beside it, and its length gives the size. Events, refusals and setters stand here too.
+// round, a held answer. User memory is lent beside it, and its length gives the size. Events, refusals, tests and setters stand here too.
 use rights::Keys;
 use rights::Session;
 use rights::Vault;
 use rights::Verdict;
 ghost use mathlib.Core.Path.{_≡_};
+ghost use Rattle.record.specs.Tests.{isReady, isQuiet, isSelected, noRound, noneHeld};
 ghost use Rattle.record.specs.Update.{withState, withRound, withHeld, withAfi, withDsfid, withAfiLocked, withDsfidLocked, withFront, withVault, powered};
 
 pub enum State {
@@ -68,6 +69,54 @@ pub struct Outcome {
     pub refusal: Refusal,
     pub length: usize,
     pub tag: Tag,
+}
+
+pub fn is_ready(s: State) -> bool
+    ensures { λ r. ⌜ r ≡ isReady s ⌝ }
+{
+    match s {
+        State::Ready => true,
+        State::Quiet => false,
+        State::Selected => false,
+    }
+}
+
+pub fn is_quiet(s: State) -> bool
+    ensures { λ r. ⌜ r ≡ isQuiet s ⌝ }
+{
+    match s {
+        State::Ready => false,
+        State::Quiet => true,
+        State::Selected => false,
+    }
+}
+
+pub fn is_selected(s: State) -> bool
+    ensures { λ r. ⌜ r ≡ isSelected s ⌝ }
+{
+    match s {
+        State::Ready => false,
+        State::Quiet => false,
+        State::Selected => true,
+    }
+}
+
+pub fn no_round(r: Round) -> bool
+    ensures { λ b. ⌜ b ≡ noRound r ⌝ }
+{
+    match r {
+        Round::None => true,
+        Round::Open { slot: _, mask: _ } => false,
+    }
+}
+
+pub fn none_held(h: Held) -> bool
+    ensures { λ r. ⌜ r ≡ noneHeld h ⌝ }
+{
+    match h {
+        Held::None => true,
+        Held::Answer(_) => false,
+    }
 }
 
 pub fn set_state(f: Front, state: State) -> Front

@@ -11,7 +11,7 @@ use Rattle.rights.specs.declared.registers.Written.{Written}
 use Rattle.rights.specs.declared.registers.Written.the-variants.{NotAllowed, Done}
 use Rattle.rights.specs.Passwords.{isOpen}
 use Rattle.rights.specs.Blocks.{areaOf}
-use Rattle.rights.specs.Registers.{isRegister, allows, permits, writtenOf, withRegister, writeOf}
+use Rattle.rights.specs.Registers.{isRegister, allows, permits, writtenOf, withRegister, registerWriteOf}
 
 abbrev pub ends : ℕ → ℕ → ℕ → Areas
 ends x y z = record { rfa1ss = 0; enda1 = x; rfa2ss = 0; enda2 = y; rfa3ss = 0; enda3 = z; rfa4ss = 0 }
@@ -75,8 +75,8 @@ configured =
 
 pub answers : Vault → List Step → List Written
 answers v [] = []
-answers v (s ∷ ss) = let w = writeOf 255 v (s .address) (s .value) in w .answer ∷ answers (w .vault) ss
+answers v (s ∷ ss) = let w = registerWriteOf 255 v (s .address) (s .value) in w .answer ∷ answers (w .vault) ss
 
 pub steps-hold : answers configured steps ≡ map (λ (s : Step). s .answer) steps
-unfolding steps configured answers isOpen isRegister allows permits writtenOf withRegister writeOf
+unfolding steps configured answers isOpen isRegister allows permits writtenOf withRegister registerWriteOf
 steps-hold = refl

@@ -22,7 +22,7 @@ use Rattle.rights.specs.Registers.{permits, writtenOf, writtenVerdict}
 use Rattle.rights.proofs.Cases.{if-one, if-both, both, join}
 use Rattle.rights.proofs.Borders.{hidden-unreadable, hidden-unwritable}
 use Rattle.rights.proofs.Sessions.{opens-alone, change-open}
-use Rattle.rights.proofs.Kept.{done-allowed}
+use Rattle.rights.proofs.Possible.{done-allowed}
 
 -- of two tests that never both hold, one holds
 pub other-false : (h r : Bool) → (h ≡ true → r ≡ false) → r ≡ true → h ≡ false

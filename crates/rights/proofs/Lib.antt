@@ -2,7 +2,8 @@ pub mod Cases
 pub mod Runs
 pub mod Borders
 pub mod Sessions
-pub mod Kept
+pub mod Addresses
+pub mod Possible
 pub mod Examples
 pub mod Ranges
 pub mod Hidden

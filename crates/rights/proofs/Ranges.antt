@@ -14,16 +14,12 @@ use Rattle.rights.specs.declared.View.{View}
 use Rattle.rights.specs.declared.registers.RegisterRead.{RegisterRead}
 use Rattle.rights.specs.declared.registers.RegisterRead.the-variants as read
 use Rattle.rights.specs.Blocks.{barredAt, statusAt}
-use Rattle.rights.specs.Registers.{registerAt, withAreas, withRegister}
+use Rattle.rights.specs.Registers.{registersOf, registerAt, withAreas, withRegister}
 use Rattle.rights.proofs.Cases.{if-one}
 
 pub status-byte : (v : View) (b : ℕ) → statusAt v b < 256
 unfolding statusAt
 status-byte v b = if-one (λ (x : ℕ). x < 256) (barredAt v b) (λ e. omega arith) (λ e. omega arith)
-
--- the seven area registers
-abbrev pub registers : Areas → List ℕ
-registers a = a .rfa1ss ∷ a .enda1 ∷ a .rfa2ss ∷ a .enda2 ∷ a .rfa3ss ∷ a .enda3 ∷ a .rfa4ss ∷ []
 
 -- the byte that is read of a register
 abbrev pub told : RegisterRead → List ℕ
@@ -33,7 +29,7 @@ told (read.Value x) = x ∷ []
 abbrev Told : RegisterRead → Type 0
 Told r = Bytes (told r)
 
-pub read-bytes : (v : View) (address : ℕ) → Bytes (registers (v .areas)) → Bytes (told (registerAt v address))
+pub read-bytes : (v : View) (address : ℕ) → Bytes (registersOf (v .areas)) → Bytes (told (registerAt v address))
 unfolding registerAt
 read-bytes v address (more a (more b (more c (more d (more f (more g (more h none))))))) =
     let bit : (if v .lockcfg then 1 else 0) < 256 = if-one (λ (x : ℕ). x < 256) (v .lockcfg) (λ e. omega arith) (λ e. omega arith) in
@@ -48,7 +44,7 @@ read-bytes v address (more a (more b (more c (more d (more f (more g (more h non
 
 -- registers are bytes; "four 64-bit passwords"
 pub record RangedVault (v : Vault) : Type 0 where
-  pub bytes : Bytes (registers (v .areas))
+  pub bytes : Bytes (registersOf (v .areas))
   pub four : length (v .keys .passwords) ≡ 4
   pub passwords : Below (2 ^ 64) (v .keys .passwords)
 
@@ -56,10 +52,10 @@ pub register-ranged : (v : Vault) (address x : ℕ) → x < 256 → RangedVault 
 unfolding withRegister
 register-ranged v address x l r = go (r .bytes)
   where
-    with-areas : (a : Areas) → Bytes (registers a) → RangedVault (withAreas v a)
+    with-areas : (a : Areas) → Bytes (registersOf a) → RangedVault (withAreas v a)
     with-areas a p = record { bytes = p; four = r .four; passwords = r .passwords }
 
-    go : Bytes (registers (v .areas)) → RangedVault (withRegister v address x)
+    go : Bytes (registersOf (v .areas)) → RangedVault (withRegister v address x)
     go (more a (more b (more c (more d (more f (more g (more h none))))))) =
         if-one RangedVault (eqb address 0x04) (λ e. with-areas _ (more l (more b (more c (more d (more f (more g (more h none)))))))) (λ e.
         if-one RangedVault (eqb address 0x05) (λ e. with-areas _ (more a (more l (more c (more d (more f (more g (more h none)))))))) (λ e.

@@ -17,7 +17,7 @@ use Rattle.rights.specs.declared.passwords.Presentation.{Presentation}
 use Rattle.rights.specs.declared.passwords.Changed.{Changed}
 use Rattle.rights.specs.declared.passwords.Changed.the-variants as changed
 use Rattle.rights.specs.Passwords.{sessionOf, isOpen, passwordOf, withSession, withPassword, presentOf, changedOf, changedVerdict, changeOf}
-use Rattle.rights.specs.Kept.{kept}
+use Rattle.rights.specs.Verdict.{afterVerdict}
 use Rattle.rights.proofs.Cases.{if-one}
 
 -- "number over 3 is 10h, sessions unchanged"
@@ -51,7 +51,7 @@ present-keeps k n w =
     (λ e. if-one (λ (p : Presentation). p .keys .passwords ≡ k .passwords) (eqb (passwordOf k n) w) (λ e. refl) (λ e. refl))
 
 -- changing password n leaves the others, and the session
-after-others : (c : Changed) (k : Keys) (n w m : ℕ) → m ≢ n → passwordOf (kept (changedVerdict c) k (withPassword k n w)) m ≡ passwordOf k m
+after-others : (c : Changed) (k : Keys) (n w m : ℕ) → m ≢ n → passwordOf (afterVerdict (changedVerdict c) k (withPassword k n w)) m ≡ passwordOf k m
 after-others changed.NumberOver k n w m d = refl
 after-others changed.NotOpen k n w m d = refl
 after-others changed.Replaced k n w m d = getD-set-other (k .passwords) n m w 0 d
@@ -60,7 +60,7 @@ pub change-leaves : (k : Keys) (n w m : ℕ) → m ≢ n → passwordOf (changeO
 unfolding changeOf
 change-leaves k n w m d = after-others (changedOf (k .session) n) k n w m d
 
-after-session : (c : Changed) (k : Keys) (n w : ℕ) → kept (changedVerdict c) k (withPassword k n w) .session ≡ k .session
+after-session : (c : Changed) (k : Keys) (n w : ℕ) → afterVerdict (changedVerdict c) k (withPassword k n w) .session ≡ k .session
 after-session changed.NumberOver k n w = refl
 after-session changed.NotOpen k n w = refl
 after-session changed.Replaced k n w = refl
@@ -80,6 +80,6 @@ change-open s n e = go (ltb 3 n) (isOpen s n) e
     go false false e = let z : _≡_ {A = ℕ} 0 1 = cc in absurd (omega arith)
 
 -- what a change gives, by its parts
-pub change-is : (k : Keys) (n w : ℕ) → changeOf k n w ≡ record { answer = changedOf (k .session) n; keys = kept (changedVerdict (changedOf (k .session) n)) k (withPassword k n w) }
+pub change-is : (k : Keys) (n w : ℕ) → changeOf k n w ≡ record { answer = changedOf (k .session) n; keys = afterVerdict (changedVerdict (changedOf (k .session) n)) k (withPassword k n w) }
 unfolding changeOf
 change-is k n w = refl

@@ -1,5 +1,5 @@
 pub mod Vault
-pub mod Kept
+pub mod Verdict
 pub mod Passwords
 pub mod Blocks
 pub mod Registers

@@ -10,7 +10,7 @@ use Rattle.rights.specs.declared.Session.the-variants.{None, Configurati
 use Rattle.rights.specs.declared.Keys.{Keys}
 use Rattle.rights.specs.declared.Verdict.{Verdict}
 use Rattle.rights.specs.declared.Verdict.the-variants.{Success, Error}
-use Rattle.rights.specs.Kept.{kept}
+use Rattle.rights.specs.Verdict.{afterVerdict}
 use Rattle.rights.specs.declared.passwords.Presented.{Presented}
 use Rattle.rights.specs.declared.passwords.Presented.the-variants as presented
 use Rattle.rights.specs.declared.passwords.Presentation.{Presentation}
@@ -77,4 +77,4 @@ changedVerdict changed.Replaced = Success
 unfoldable pub changeOf : Keys → ℕ → ℕ → PasswordChange
 changeOf k n w =
     let c = changedOf (k .session) n in
-    record { answer = c; keys = kept (changedVerdict c) k (withPassword k n w) }
+    record { answer = c; keys = afterVerdict (changedVerdict c) k (withPassword k n w) }

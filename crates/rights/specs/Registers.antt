@@ -2,6 +2,7 @@
 -- Assumes nothing.
 use Prim.Native.Nat.{ℕ}
 use mathlib.Core.Bool.{Bool, not, _&&_, _||_}
+use mathlib.Core.List.{List, [], _∷_}
 use lib.Dec.{leb, ltb, eqb}
 use Rattle.put.specs.If.{if_then_else_}
 use Rattle.rights.specs.declared.Areas.{Areas}
@@ -15,8 +16,12 @@ use Rattle.rights.specs.declared.registers.Written.{Written}
 use Rattle.rights.specs.declared.registers.Written.the-variants as written
 use Rattle.rights.specs.declared.registers.RegisterWrite.{RegisterWrite}
 use Rattle.rights.specs.Vault.{viewOf}
-use Rattle.rights.specs.Kept.{kept}
+use Rattle.rights.specs.Verdict.{afterVerdict}
 use Rattle.rights.specs.Passwords.{isOpen}
+
+-- the seven area registers, in the order of the image's bytes
+abbrev pub registersOf : Areas → List ℕ
+registersOf a = a .rfa1ss ∷ a .enda1 ∷ a .rfa2ss ∷ a .enda2 ∷ a .rfa3ss ∷ a .enda3 ∷ a .rfa4ss ∷ []
 
 -- "Read A0h and write A1h take a one-byte register address as in 003", Table 10. "Registers: the seven above and LOCK_CFG. Unknown 10h"
 unfoldable pub registerAt : View → ℕ → RegisterRead
@@ -70,20 +75,16 @@ withRegister v address x =
     if eqb address 0x0F then record { areas = a; lock0 = v .lock0; lock1 = v .lock1; lockcfg = eqb x 0x01; keys = v .keys } else v
 
 -- the codes of 01 for each case
-abbrev pub readVerdict : RegisterRead → Verdict
-readVerdict read.Unknown = Error 0x10
-readVerdict (read.Value x) = Success
-
 abbrev pub writtenVerdict : Written → Verdict
 writtenVerdict written.Unknown = Error 0x10
 writtenVerdict written.NotPermitted = Error 0x0F
 writtenVerdict written.NotAllowed = Error 0x13
 writtenVerdict written.Done = Success
 
-unfoldable pub writeOf : ℕ → Vault → ℕ → ℕ → RegisterWrite
-writeOf e v address x =
+unfoldable pub registerWriteOf : ℕ → Vault → ℕ → ℕ → RegisterWrite
+registerWriteOf e v address x =
     let w = writtenOf e (viewOf v) address x in
-    record { answer = w; vault = kept (writtenVerdict w) v (withRegister v address x) }
+    record { answer = w; vault = afterVerdict (writtenVerdict w) v (withRegister v address x) }
 
 -- ---- "Record rules", those of the registers
 

@@ -7,7 +7,7 @@ use super::passwords::is_open;
 ghost use mathlib.Core.Path.{_≡_};
 ghost use mathlib.Core.Bool.{_&&_};
 ghost use Rattle.put.specs.If.{if_then_else_};
-ghost use Rattle.rights.specs.Registers.{registerAt, isRegister, allows, permits, writtenOf, withRegister, writeOf, readVerdict, writtenVerdict, endRule, pairRule, possible};
+ghost use Rattle.rights.specs.Registers.{registerAt, isRegister, allows, permits, writtenOf, withRegister, registerWriteOf, writtenVerdict, endRule, pairRule, possible};
 
 pub enum RegisterRead {
     Unknown,
@@ -112,7 +112,7 @@ fn set_register(mut v: Vault, address: u8, value: u8) -> Vault
 
 // A write of a register, of a tag whose last end is e.
 pub fn write_register(e: u8, v: Vault, address: u8, value: u8) -> RegisterWrite
-    ensures { λ r. ⌜ r ≡ writeOf e v address value ⌝ }
+    ensures { λ r. ⌜ r ≡ registerWriteOf e v address value ⌝ }
 {
     let view = super::seen(v);
     let answer = write_answer(e, view, address, value);
@@ -124,15 +124,6 @@ pub fn write_register(e: u8, v: Vault, address: u8, value: u8) -> RegisterWrite
             answer,
             vault: set_register(v, address, value),
         },
-    }
-}
-
-pub fn read_verdict(r: RegisterRead) -> Verdict
-    ensures { λ v. ⌜ v ≡ readVerdict r ⌝ }
-{
-    match r {
-        RegisterRead::Unknown => Verdict::Error(0x10),
-        RegisterRead::Value(_) => Verdict::Success,
     }
 }
 

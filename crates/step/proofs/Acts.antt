@@ -11,12 +11,12 @@ use Rattle.rights.specs.declared.Vault.{Vault}
 use Rattle.rights.specs.declared.View.{View}
 use Rattle.rights.specs.declared.Verdict.{Verdict}
 use Rattle.rights.specs.declared.Verdict.the-variants.{Success, Error}
-use Rattle.rights.specs.Kept.{kept}
+use Rattle.rights.specs.Verdict.{afterVerdict}
 use Rattle.rights.specs.Vault.{viewOf}
 use Rattle.rights.specs.Passwords.{withPassword, changedOf, changedVerdict, changeOf}
-use Rattle.rights.specs.Registers.{withRegister, writtenOf, writtenVerdict, writeOf}
+use Rattle.rights.specs.Registers.{withRegister, writtenOf, writtenVerdict, registerWriteOf}
 use Rattle.rights.proofs.Sessions.{change-is}
-use Rattle.rights.proofs.Kept.{write-is, kept-over}
+use Rattle.rights.proofs.Possible.{write-is, verdict-over}
 use Rattle.record.specs.declared.Front.{Front}
 use Rattle.record.specs.declared.Tag.{Tag}
 use Rattle.record.specs.declared.Round.{Round}
@@ -25,7 +25,7 @@ use Rattle.record.specs.Update.{withFront, withVault, withKeys, passingCleared,
 use Rattle.tag.specs.declared.Command.{Command}
 use Rattle.tag.specs.declared.Entry.{Entry}
 use Rattle.tag.specs.Work.{silence, verdict, body, Unit, register, password, says, writes, closes, work, applyToTag, applyToMemory, perform}
-use Rattle.tag.specs.Blocks.{taken, blockUnits}
+use Rattle.tag.specs.Blocks.{granted, blockUnits}
 use Rattle.tag.specs.Commands.{frontAfter, actOf, isHolding, requestOf}
 use Rattle.tag.specs.Rules.{blocksOf}
 use Rattle.tag.specs.Step.{fieldOn, fieldOff, roundEnds, frameEnds, workOf, lineOf, performed, step}
@@ -47,25 +47,25 @@ quiet false t m = record { result = refl; memory = refl; room = refl }
 
 module _ (hold : Bool) (t : Tag) {x x′ : List ℕ} {r : Said} where
   -- a write that touches the record alone
-  pub written : (v : Verdict) (us : List Unit) → ((m : List ℕ) → applyToMemory us m ≡ m) → Does hold (kept v t (applyToTag us t)) (says (verdict v)) x x′ r → Does hold t (taken v (writes us)) x x′ r
+  pub written : (v : Verdict) (us : List Unit) → ((m : List ℕ) → applyToMemory us m ≡ m) → Does hold (afterVerdict v t (applyToTag us t)) (says (verdict v)) x x′ r → Does hold t (granted v (writes us)) x x′ r
   unfolding perform
   written Success us e d m = rw (e m) (d m)
   written (Error c) us e d m = d m
 
   -- a password changed, and a register written, as rights gives them
-  pub password-written : (n w : ℕ) → Does hold (withVault t (withKeys (t .vault) (changeOf (t .vault .keys) n w .keys))) (says (verdict (changedVerdict (changeOf (t .vault .keys) n w .answer)))) x x′ r → Does hold t (taken (changedVerdict (changedOf (t .vault .keys .session) n)) (writes (password n w ∷ []))) x x′ r
+  pub password-written : (n w : ℕ) → Does hold (withVault t (withKeys (t .vault) (changeOf (t .vault .keys) n w .keys))) (says (verdict (changedVerdict (changeOf (t .vault .keys) n w .answer)))) x x′ r → Does hold t (granted (changedVerdict (changedOf (t .vault .keys .session) n)) (writes (password n w ∷ []))) x x′ r
   unfolding applyToTag applyToMemory
   password-written n w d =
       let v = changedVerdict (changedOf (t .vault .keys .session) n) in
       written v (password n w ∷ []) (λ m. refl)
-      (rw (change-is, kept-over (λ (k : Keys). withVault t (withKeys (t .vault) k)) v (t .vault .keys) (withPassword (t .vault .keys) n w)) at d)
+      (rw (change-is, verdict-over (λ (k : Keys). withVault t (withKeys (t .vault) k)) v (t .vault .keys) (withPassword (t .vault .keys) n w)) at d)
 
-  pub register-written : (e address value : ℕ) → Does hold (withVault t (writeOf e (t .vault) address value .vault)) (says (verdict (writtenVerdict (writeOf e (t .vault) address value .answer)))) x x′ r → Does hold t (taken (writtenVerdict (writtenOf e (viewOf (t .vault)) address value)) (writes (register address value ∷ []))) x x′ r
+  pub register-written : (e address value : ℕ) → Does hold (withVault t (registerWriteOf e (t .vault) address value .vault)) (says (verdict (writtenVerdict (registerWriteOf e (t .vault) address value .answer)))) x x′ r → Does hold t (granted (writtenVerdict (writtenOf e (viewOf (t .vault)) address value)) (writes (register address value ∷ []))) x x′ r
   unfolding applyToTag applyToMemory
   register-written e address value d =
       let v = writtenVerdict (writtenOf e (viewOf (t .vault)) address value) in
       written v (register address value ∷ []) (λ m. refl)
-      (rw (write-is, kept-over (λ (u : Vault). withVault t u) v (t .vault) (withRegister (t .vault) address value)) at d)
+      (rw (write-is, verdict-over (λ (u : Vault). withVault t u) v (t .vault) (withRegister (t .vault) address value)) at d)
 
 -- and blocks, which touch the memory alone
 pub blocks-written : (hold : Bool) (t : Tag) (first n : ℕ) (bytes m m′ : List ℕ) {x x′ : List ℕ} {r : Said} → m′ ≡ applyToMemory (blockUnits first n bytes) m → Does hold t (says (verdict Success)) x x′ r → Gives (concluded hold (perform t m (writes (blockUnits first n bytes)))) x m′ x′ r

@@ -8,7 +8,7 @@ ghost use mathlib.Core.List.{[], _∷_};
 ghost use Prim.Native.Nat.{_+_, _≤_};
 ghost use lib.ListN.{length, take, drop};
 ghost use Rattle.put.specs.Put.{Put};
-ghost use Rattle.rights.specs.Kept.{kept};
+ghost use Rattle.rights.specs.Verdict.{afterVerdict};
 ghost use Rattle.put.specs.Number.{bytesOf};
 ghost use Rattle.tag.specs.Inventory.{inventoryAnswer};
 ghost use Rattle.tag.specs.Work.{verdict, body, says};
@@ -98,10 +98,10 @@ pub fn settle(hold: bool, v: Verdict, t: Tag, room: &mut [u8]) -> Said
     Said { length, tag: t }
 }
 
-// What is refused leaves the tag as it was, and what is taken makes it the next one.
+// What is refused leaves the tag as it was, and what is granted makes it the next one.
 pub fn conclude(hold: bool, t: Tag, v: Verdict, next: Tag, room: &mut [u8]) -> Said
     requires { ⌜ 4 ≤ length (now room) ⌝ }
-    ensures { λ s. ⌜ Does hold (kept v t next) (says (verdict v)) (now (room .entry)) (now (room .exit)) s ⌝ }
+    ensures { λ s. ⌜ Does hold (afterVerdict v t next) (says (verdict v)) (now (room .entry)) (now (room .exit)) s ⌝ }
 {
     match v {
         Verdict::Success => settle(hold, v, next, room),

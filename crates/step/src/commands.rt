@@ -29,7 +29,7 @@ ghost use Rattle.record.specs.Update.{withVault, withKeys, withState, withFront
 ghost use Rattle.tag.specs.Rules.{blocksOf, lastEnd};
 ghost use Rattle.tag.specs.Table.{firstOf, moreOf, headOf, dataOf, limitOf};
 ghost use Rattle.tag.specs.Work.{body, afi, afiLock, dsfid, dsfidLock, register, password, presents, writes, listing, perform};
-ghost use Rattle.tag.specs.Blocks.{taken, readOf, statuses, statusOf, writeOf, lockOf};
+ghost use Rattle.tag.specs.Blocks.{granted, readOf, statuses, statusOf, writeOf, lockOf};
 ghost use Rattle.tag.specs.Commands.{unless, registerAnswer, isHolding, requestOf};
 ghost use Rattle.tag.specs.Step.{lineOf, performed};
 ghost use Rattle.tag.specs.Host.{isMemory};
@@ -47,7 +47,7 @@ fn unless_locked(locked: bool, code: u8) -> Verdict
 // "Write AFI 27h: locked 12h."
 fn write_afi(t: Tag, hold: bool, value: u8, room: &mut [u8]) -> Said
     requires { ⌜ 4 ≤ length (now room) ⌝ }
-    ensures { λ s. ⌜ Does hold t (taken (unless (t .front .lockafi) 0x12) (writes (afi value ∷ []))) (now (room .entry)) (now (room .exit)) s ⌝ }
+    ensures { λ s. ⌜ Does hold t (granted (unless (t .front .lockafi) 0x12) (writes (afi value ∷ []))) (now (room .entry)) (now (room .exit)) s ⌝ }
 {
     let f = t.front;
     let next = record::set_front(t, record::set_afi(f, value));
@@ -57,7 +57,7 @@ fn write_afi(t: Tag, hold: bool, value: u8, room: &mut [u8]) -> Said
 // "Lock AFI 28h: locked already 11h."
 fn lock_afi(t: Tag, hold: bool, room: &mut [u8]) -> Said
     requires { ⌜ 4 ≤ length (now room) ⌝ }
-    ensures { λ s. ⌜ Does hold t (taken (unless (t .front .lockafi) 0x11) (writes (afiLock ∷ []))) (now (room .entry)) (now (room .exit)) s ⌝ }
+    ensures { λ s. ⌜ Does hold t (granted (unless (t .front .lockafi) 0x11) (writes (afiLock ∷ []))) (now (room .entry)) (now (room .exit)) s ⌝ }
 {
     let f = t.front;
     let next = record::set_front(t, record::lock_afi(f));
@@ -67,7 +67,7 @@ fn lock_afi(t: Tag, hold: bool, room: &mut [u8]) -> Said
 // "Write DSFID 29h: locked 12h."
 fn write_dsfid(t: Tag, hold: bool, value: u8, room: &mut [u8]) -> Said
     requires { ⌜ 4 ≤ length (now room) ⌝ }
-    ensures { λ s. ⌜ Does hold t (taken (unless (t .front .lockdsfid) 0x12) (writes (dsfid value ∷ []))) (now (room .entry)) (now (room .exit)) s ⌝ }
+    ensures { λ s. ⌜ Does hold t (granted (unless (t .front .lockdsfid) 0x12) (writes (dsfid value ∷ []))) (now (room .entry)) (now (room .exit)) s ⌝ }
 {
     let f = t.front;
     let next = record::set_front(t, record::set_dsfid(f, value));
@@ -77,7 +77,7 @@ fn write_dsfid(t: Tag, hold: bool, value: u8, room: &mut [u8]) -> Said
 // "Lock DSFID 2Ah: locked already 11h."
 fn lock_dsfid(t: Tag, hold: bool, room: &mut [u8]) -> Said
     requires { ⌜ 4 ≤ length (now room) ⌝ }
-    ensures { λ s. ⌜ Does hold t (taken (unless (t .front .lockdsfid) 0x11) (writes (dsfidLock ∷ []))) (now (room .entry)) (now (room .exit)) s ⌝ }
+    ensures { λ s. ⌜ Does hold t (granted (unless (t .front .lockdsfid) 0x11) (writes (dsfidLock ∷ []))) (now (room .entry)) (now (room .exit)) s ⌝ }
 {
     let f = t.front;
     let next = record::set_front(t, record::lock_dsfid(f));
@@ -124,7 +124,7 @@ fn present(t: Tag, hold: bool, number: u8, value: u64, room: &mut [u8]) -> Said
 // "Write password B1h"
 fn write_password(t: Tag, hold: bool, number: u8, value: u64, room: &mut [u8]) -> Said
     requires { ⌜ 4 ≤ length (now room) ⌝ }
-    ensures { λ s. ⌜ Does hold t (taken (changedVerdict (changedOf (t .vault .keys .session) number)) (writes (password number value ∷ []))) (now (room .entry)) (now (room .exit)) s ⌝ }
+    ensures { λ s. ⌜ Does hold t (granted (changedVerdict (changedOf (t .vault .keys .session) number)) (writes (password number value ∷ []))) (now (room .entry)) (now (room .exit)) s ⌝ }
 {
     let v = t.vault;
     let k = v.keys;
@@ -142,7 +142,7 @@ fn write_password(t: Tag, hold: bool, number: u8, value: u64, room: &mut [u8]) -
 // "write A1h", on a tag whose last end is e
 fn write_register(t: Tag, hold: bool, e: u8, address: u8, value: u8, room: &mut [u8]) -> Said
     requires { ⌜ 4 ≤ length (now room) ⌝ }
-    ensures { λ s. ⌜ Does hold t (taken (writtenVerdict (writtenOf e (viewOf (t .vault)) address value)) (writes (register address value ∷ []))) (now (room .entry)) (now (room .exit)) s ⌝ }
+    ensures { λ s. ⌜ Does hold t (granted (writtenVerdict (writtenOf e (viewOf (t .vault)) address value)) (writes (register address value ∷ []))) (now (room .entry)) (now (room .exit)) s ⌝ }
 {
     let v = t.vault;
     let w = rights::registers::write_register(e, v, address, value);

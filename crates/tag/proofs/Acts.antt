@@ -20,7 +20,7 @@ use Rattle.rights.specs.Vault.{viewOf}
 use Rattle.rights.specs.Passwords.{presentOf, changedOf, changedVerdict}
 use Rattle.rights.specs.Registers.{registerAt, writtenOf, writtenVerdict, withRegister, possible}
 use Rattle.rights.proofs.Cases.{if-one}
-use Rattle.rights.proofs.Kept.{done-possible}
+use Rattle.rights.proofs.Possible.{done-possible}
 use Rattle.record.specs.declared.Front.{Front}
 use Rattle.record.specs.declared.Tag.{Tag}
 use Rattle.record.specs.Update.{withFront, withVault}
@@ -30,7 +30,7 @@ use Rattle.tag.specs.declared.Entry.{Entry}
 use Rattle.tag.specs.Rules.{lastEnd, isCode, heldRule}
 use Rattle.tag.specs.Table.{firstOf, moreOf, dataOf, limitOf}
 use Rattle.tag.specs.Work.{Answer, silence, verdict, body, register, Act, writes, applyToTag, Done, perform}
-use Rattle.tag.specs.Blocks.{taken, readVerdict, statusVerdict, writeVerdict, lockVerdict, blockUnits}
+use Rattle.tag.specs.Blocks.{granted, readVerdict, statusVerdict, writeVerdict, lockVerdict, blockUnits}
 use Rattle.tag.specs.Commands.{frontAfter, unless, registerAnswer, actOf}
 use Rattle.tag.proofs.Codes.{Coded, read-coded, status-coded, write-coded, lock-coded, unless-coded, presented-coded, changed-coded, written-coded}
 use Rattle.tag.proofs.Live.{Clear}
@@ -45,11 +45,11 @@ Sayable (body b) = record {}
 abbrev pub Fine : ℕ → Done → Type 0
 Fine e d = record { tag : Clear e (d .tag); answer : Sayable (d .answer) }
 
--- a refusal says its code and leaves the tag; what is taken has to be fine
-taken-fine : (e : ℕ) (t : Tag) (m : List ℕ) (a : Act) (x : Verdict) → Clear e t → Coded x → (x ≡ Success → Fine e (perform t m a)) → Fine e (perform t m (taken x a))
+-- a refusal says its code and leaves the tag; what is granted has to be fine
+granted-fine : (e : ℕ) (t : Tag) (m : List ℕ) (a : Act) (x : Verdict) → Clear e t → Coded x → (x ≡ Success → Fine e (perform t m a)) → Fine e (perform t m (granted x a))
 unfolding perform
-taken-fine e t m a Success c h k = k refl
-taken-fine e t m a (Error code) c h k = record { tag = c; answer = h }
+granted-fine e t m a Success c h k = k refl
+granted-fine e t m a (Error code) c h k = record { tag = c; answer = h }
 
 -- written blocks are no part of the record
 pub blocks-leave : (b n : ℕ) (bytes : List ℕ) (t : Tag) → applyToTag (blockUnits b n bytes) t ≡ t
@@ -62,7 +62,7 @@ unfolding perform heldRule isCode
 read-fine e t m read.Unknown c = record { tag = c; answer = refl }
 read-fine e t m (read.Value x) c = record { tag = c; answer = record {} }
 
-register-fine : (e : ℕ) (t : Tag) (m : List ℕ) (address x : ℕ) (w : Written) → Clear e t → (w ≡ written.Done → possible e (withRegister (t .vault) address x .areas) ≡ true) → Fine e (perform t m (taken (writtenVerdict w) (writes (register address x ∷ []))))
+register-fine : (e : ℕ) (t : Tag) (m : List ℕ) (address x : ℕ) (w : Written) → Clear e t → (w ≡ written.Done → possible e (withRegister (t .vault) address x .areas) ≡ true) → Fine e (perform t m (granted (writtenVerdict w) (writes (register address x ∷ []))))
 unfolding perform applyToTag
 register-fine e t m address x written.Unknown c h = record { tag = c; answer = written-coded written.Unknown }
 register-fine e t m address x written.NotPermitted c h = record { tag = c; answer = written-coded written.NotPermitted }
@@ -97,31 +97,31 @@ module _ (blocks : ℕ) (t : Tag) (m : List ℕ) (f : Front) (n : Entry) (option
   unfolding actOf perform applyToTag heldRule isCode
   act-fine StayQuiet = record { tag = c; answer = record {} }
   act-fine Read =
-      taken-fine e u m _ (readVerdict v limit first) c (read-coded v limit first) (λ h. record { tag = c; answer = record {} })
+      granted-fine e u m _ (readVerdict v limit first) c (read-coded v limit first) (λ h. record { tag = c; answer = record {} })
   act-fine Write =
-      taken-fine e u m _ (writeVerdict v limit first more) c (write-coded v limit first more)
+      granted-fine e u m _ (writeVerdict v limit first more) c (write-coded v limit first more)
       (λ h. record { tag = rw (blocks-leave first (more + 1) (dataOf n fields) u) c; answer = refl })
   act-fine Lock =
-      taken-fine e u m _ (lockVerdict v first) c (lock-coded v first)
+      granted-fine e u m _ (lockVerdict v first) c (lock-coded v first)
       (λ h. record { tag = if-one (λ (w : Vault). Clear e (withVault u w)) (eqb first 0) (λ i. c) (λ i. c); answer = refl })
   act-fine Select = record { tag = c; answer = refl }
   act-fine ResetToReady = record { tag = c; answer = refl }
   act-fine WriteAfi =
-      taken-fine e u m _ (unless (f .lockafi) 0x12) c (unless-coded (f .lockafi) 0x12 refl) (λ h. record { tag = c; answer = refl })
+      granted-fine e u m _ (unless (f .lockafi) 0x12) c (unless-coded (f .lockafi) 0x12 refl) (λ h. record { tag = c; answer = refl })
   act-fine LockAfi =
-      taken-fine e u m _ (unless (f .lockafi) 0x11) c (unless-coded (f .lockafi) 0x11 refl) (λ h. record { tag = c; answer = refl })
+      granted-fine e u m _ (unless (f .lockafi) 0x11) c (unless-coded (f .lockafi) 0x11 refl) (λ h. record { tag = c; answer = refl })
   act-fine WriteDsfid =
-      taken-fine e u m _ (unless (f .lockdsfid) 0x12) c (unless-coded (f .lockdsfid) 0x12 refl) (λ h. record { tag = c; answer = refl })
+      granted-fine e u m _ (unless (f .lockdsfid) 0x12) c (unless-coded (f .lockdsfid) 0x12 refl) (λ h. record { tag = c; answer = refl })
   act-fine LockDsfid =
-      taken-fine e u m _ (unless (f .lockdsfid) 0x11) c (unless-coded (f .lockdsfid) 0x11 refl) (λ h. record { tag = c; answer = refl })
+      granted-fine e u m _ (unless (f .lockdsfid) 0x11) c (unless-coded (f .lockdsfid) 0x11 refl) (λ h. record { tag = c; answer = refl })
   act-fine Status =
-      taken-fine e u m _ (statusVerdict limit first) c (status-coded limit first) (λ h. record { tag = c; answer = record {} })
+      granted-fine e u m _ (statusVerdict limit first) c (status-coded limit first) (λ h. record { tag = c; answer = record {} })
   act-fine ReadRegister = read-fine e u m (registerAt v byte) c
   act-fine WriteRegister =
       register-fine e u m byte (getD fields 1 0) (writtenOf e v byte (getD fields 1 0)) c
       (done-possible e (t .vault) byte (getD fields 1 0) (c .registers))
   act-fine WritePassword =
-      taken-fine e u m _ (changedVerdict (changedOf (v .session) byte)) c (changed-coded (changedOf (v .session) byte))
+      granted-fine e u m _ (changedVerdict (changedOf (v .session) byte)) c (changed-coded (changedOf (v .session) byte))
       (λ h. record { tag = c; answer = refl })
   act-fine Present = record { tag = c; answer = presented-coded (presentOf (t .vault .keys) byte (numberAt 8 fields 1) .answer) }
   act-fine Unlisted = record { tag = c; answer = refl }

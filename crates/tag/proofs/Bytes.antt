@@ -19,9 +19,9 @@ use Rattle.rights.specs.declared.registers.RegisterRead.{RegisterRead}
 use Rattle.rights.specs.declared.registers.RegisterRead.the-variants as read
 use Rattle.rights.specs.Vault.{viewOf}
 use Rattle.rights.specs.Passwords.{changedOf, changedVerdict}
-use Rattle.rights.specs.Registers.{registerAt, writtenOf, writtenVerdict}
+use Rattle.rights.specs.Registers.{registersOf, registerAt, writtenOf, writtenVerdict}
 use Rattle.rights.proofs.Cases.{if-one}
-use Rattle.rights.proofs.Ranges.{status-byte, told, read-bytes, registers}
+use Rattle.rights.proofs.Ranges.{status-byte, told, read-bytes}
 use Rattle.record.specs.declared.Front.{Front}
 use Rattle.record.specs.declared.Tag.{Tag}
 use Rattle.record.specs.declared.State.the-variants.{Ready, Quiet, Selected}
@@ -39,7 +39,7 @@ use Rattle.tag.specs.Table.{firstOf, moreOf, headOf, limitOf}
 use Rattle.tag.specs.Frame.{flagBit, fieldsFrom, endOf, check2, check3, check4, check5, check6, selectOfAnother, check7, check8, check9, check10, heardOf}
 use Rattle.tag.specs.Work.{Answer, silence, verdict, body, Unit, Act, says, writes, Work}
 use Rattle.tag.specs.Inventory.{oneSlot, maskAt, maskLength, slotOf, inSlot, unheard, inventoryOf, nextSlot}
-use Rattle.tag.specs.Blocks.{taken, readVerdict, statuses, statusVerdict, writeVerdict, blockUnits, lockVerdict}
+use Rattle.tag.specs.Blocks.{granted, readVerdict, statuses, statusVerdict, writeVerdict, blockUnits, lockVerdict}
 use Rattle.tag.specs.Commands.{frontAfter, unless, registerAnswer, actOf, requestOf}
 use Rattle.tag.specs.Step.{Event, fieldOn, fieldOff, endOfFrame, request, dropped, workHeard, frameOf, roundEnds, frameEnds, workOf, sealed, lineOf, Stepped, settled, step, Ran, run}
 use Rattle.tag.specs.Image.{markOf, lockByte, tagIn, headerOf, imageOf, factory}
@@ -53,12 +53,12 @@ use Rattle.tag.proofs.Ranges.{roundBytes, heldBytes, RangedFront, Range
 fields-bytes : {f : List ℕ} (start : ℕ) → Bytes f → Bytes (fieldsFrom start f)
 fields-bytes {f} start p = below-take (endOf f - start) (below-drop start p)
 
-taken-ranged : (v : Verdict) (a : Act) → Coded v → RangedAct a → RangedAct (taken v a)
-taken-ranged Success a c h = h
-taken-ranged (Error x) a c h = says-in (verdict-bytes (Error x) c)
+granted-ranged : (v : Verdict) (a : Act) → Coded v → RangedAct a → RangedAct (granted v a)
+granted-ranged Success a c h = h
+granted-ranged (Error x) a c h = says-in (verdict-bytes (Error x) c)
 
-one-ranged : (v : Verdict) {u : Unit} → Coded v → RangedUnit u → RangedAct (taken v (writes (u ∷ [])))
-one-ranged v {u} c h = taken-ranged v (writes (u ∷ [])) c (writes-in (unit-and h no-unit))
+one-ranged : (v : Verdict) {u : Unit} → Coded v → RangedUnit u → RangedAct (granted v (writes (u ∷ [])))
+one-ranged v {u} c h = granted-ranged v (writes (u ∷ [])) c (writes-in (unit-and h no-unit))
 
 register-told : (r : RegisterRead) → Bytes (told r) → RangedAct (registerAnswer r)
 unfolding heldRule isCode
@@ -94,7 +94,7 @@ after-ranged r WritePassword = r
 after-ranged r Present = r
 after-ranged r Unlisted = r
 
-module _ (t : Front) (v : View) (areas-bytes : Bytes (registers (v .areas))) (blocks : ℕ) (e : Entry) (option : Bool) {fields : List ℕ} (p : Bytes fields) where
+module _ (t : Front) (v : View) (areas-bytes : Bytes (registersOf (v .areas))) (blocks : ℕ) (e : Entry) (option : Bool) {fields : List ℕ} (p : Bytes fields) where
   abbrev limit : ℕ
   limit = limitOf e blocks
 
@@ -104,9 +104,9 @@ module _ (t : Front) (v : View) (areas-bytes : Bytes (registers (v .areas))) (bl
   act-ranged : (c : Command) → RangedAct (actOf c t v blocks e option fields)
   unfolding actOf heldRule isCode
   act-ranged StayQuiet = says-in none
-  act-ranged Read = taken-ranged (readVerdict v limit first) _ (read-coded v limit first) lists-in
+  act-ranged Read = granted-ranged (readVerdict v limit first) _ (read-coded v limit first) lists-in
   act-ranged Write =
-      taken-ranged (writeVerdict v limit first (moreOf e fields)) _ (write-coded v limit first (moreOf e fields))
+      granted-ranged (writeVerdict v limit first (moreOf e fields)) _ (write-coded v limit first (moreOf e fields))
       (writes-in (blocks-ranged first (moreOf e fields + 1) (below-drop (headOf e) p)))
   act-ranged Lock = one-ranged (lockVerdict v first) (lock-coded v first) block-lock-in
   act-ranged Select = says-in none
@@ -116,7 +116,7 @@ module _ (t : Front) (v : View) (areas-bytes : Bytes (registers (v .areas))) (bl
   act-ranged WriteDsfid = one-ranged (unless (t .lockdsfid) 0x12) (unless-coded (t .lockdsfid) 0x12 refl) (dsfid-in (byte-at 0 p))
   act-ranged LockDsfid = one-ranged (unless (t .lockdsfid) 0x11) (unless-coded (t .lockdsfid) 0x11 refl) dsfid-lock-in
   act-ranged Status =
-      taken-ranged (statusVerdict limit first) _ (status-coded limit first) (says-in (statuses-bytes v limit first (moreOf e fields + 1)))
+      granted-ranged (statusVerdict limit first) _ (status-coded limit first) (says-in (statuses-bytes v limit first (moreOf e fields + 1)))
   act-ranged ReadRegister = register-told (registerAt v (getD fields 0 0)) (read-bytes v (getD fields 0 0) areas-bytes)
   act-ranged WriteRegister =
       let w = writtenOf (lastEnd blocks) v (getD fields 0 0) (getD fields 1 0) in
@@ -184,7 +184,7 @@ heard-bytes t f =
     if-one CodeByte (check9 f) (λ e. none) (λ e.
     if-one CodeByte (check10 f) (λ e. verdict-bytes (Error 0x03) refl) (λ e. none))))))))))
 
-module _ {t : Front} (r : RangedFront t) (v : View) (areas-bytes : Bytes (registers (v .areas))) (blocks : ℕ) where
+module _ {t : Front} (r : RangedFront t) (v : View) (areas-bytes : Bytes (registersOf (v .areas))) (blocks : ℕ) where
   frame-ranged : {f : List ℕ} (x : Heard) → Bytes f → CodeByte x → RangedWork (workHeard x t v blocks f)
   unfolding requestOf
   frame-ranged heard.Silence p h = record { front = r; act = says-in none }
@@ -212,7 +212,7 @@ sent fieldOff = []
 sent endOfFrame = []
 sent (request f) = f
 
-work-ranged : {t : Front} (v : View) (blocks : ℕ) (e : Event) → RangedFront t → Bytes (registers (v .areas)) → Bytes (sent e) → RangedWork (workOf t v blocks e)
+work-ranged : {t : Front} (v : View) (blocks : ℕ) (e : Event) → RangedFront t → Bytes (registersOf (v .areas)) → Bytes (sent e) → RangedWork (workOf t v blocks e)
 unfolding workOf frameOf
 work-ranged {t} v blocks fieldOn r g p =
     if-one RangedWork (t .field) (λ e. record { front = r; act = says-in none }) (λ e. record { front = cleared-ranged r true; act = closes-in })

@@ -1,7 +1,7 @@
 -- Every host call gives a sound record, with the memory as it leaves it, for a sound one with the memory before it, refused or not: what
 -- began sound is not refused by number 3 while the host lends with each record the memory that goes with it.
 -- Assumes nothing.
-use Prim.Native.Nat.{ℕ, _+_}
+use Prim.Native.Nat.{ℕ}
 use native.Mathlib.Omega.{arith}
 use mathlib.Core.Path.{_≡_, refl}
 use mathlib.Core.Bool.{true, false, not}

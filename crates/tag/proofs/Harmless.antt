@@ -9,7 +9,6 @@ use native.Mathlib.Omega.{arith}
 use lib.ListN.{length, take, drop, getD, length-take}
 use lib.Dec.{leb, ltb}
 use borrow.Author.Tests.{le-leb}
-use Rattle.put.specs.If.{if_then_else_}
 use Rattle.put.specs.Number.{numberAt}
 use Rattle.rights.specs.declared.Areas.{Areas}
 use Rattle.rights.specs.declared.View.{View}
@@ -18,7 +17,7 @@ use Rattle.rights.specs.declared.Verdict.the-variants.{Success, Error}
 use Rattle.rights.specs.declared.registers.RegisterRead.{RegisterRead}
 use Rattle.rights.specs.declared.registers.RegisterRead.the-variants as read
 use Rattle.rights.specs.Passwords.{isOpen, changedOf, changedVerdict}
-use Rattle.rights.specs.Blocks.{crossesAt, anyBarred, hiddenBy}
+use Rattle.rights.specs.Blocks.{anyBarred, hiddenBy}
 use Rattle.rights.specs.Registers.{registerAt, writtenOf, writtenVerdict}
 use Rattle.rights.proofs.Cases.{or-true, if-one, join}
 use Rattle.rights.proofs.Hidden.{other-false, writable-unhidden, none-barred, changed-open, written-open}
@@ -37,10 +36,11 @@ use Rattle.tag.specs.Table.{firstOf, moreOf, dataOf, limitOf}
 use Rattle.tag.specs.Frame.{heardOf}
 use Rattle.tag.specs.Work.{body, Unit, block, register, afi, dsfid, blockLock, afiLock, dsfidLock, password, Act, says, lists, presents, writes, closes, Work}
 use Rattle.tag.specs.Inventory.{oneSlot, unheard, inventoryOf, nextSlot}
-use Rattle.tag.specs.Blocks.{taken, readVerdict, statuses, statusVerdict, writeVerdict, blockUnits, lockVerdict}
+use Rattle.tag.specs.Blocks.{granted, readVerdict, statuses, statusVerdict, writeVerdict, blockUnits, lockVerdict}
 use Rattle.tag.specs.Commands.{unless, registerAnswer, actOf, requestOf}
 use Rattle.tag.specs.Step.{Event, fieldOn, fieldOff, endOfFrame, request, dropped, workHeard, frameOf, roundEnds, frameEnds, workOf}
 use Rattle.tag.specs.Secrecy.{guards, Shut}
+use Rattle.tag.proofs.Writes.{write-granted}
 
 -- a unit that writes nothing of what is to stay, of areas with these registers
 unfoldable pub harmless : (ℕ → Bool) → Areas → Unit → Bool
@@ -67,19 +67,6 @@ harmlessAct chosen a closes = true
 pub chosen-guards : (chosen : ℕ → Bool) (n : ℕ) → chosen n ≡ true → guards chosen n ≡ true
 chosen-guards chosen n e = rw e
 
--- a write is taken only where no block of it is barred
-taken-unbarred : (v : View) (limit first more : ℕ) → writeVerdict v limit first more ≡ Success → anyBarred v first (more + 1) ≡ false
-unfolding writeVerdict
-taken-unbarred v limit first more h = go (ltb 4 (more + 1)) (leb limit (first + more)) (crossesAt (v .areas) first more) (anyBarred v first (more + 1)) h
-  where
-    go : (p q r s : Bool) →
-        (if p then Error 0x0F else if q then Error 0x10 else if r then Error 0x0F else if s then Error 0x12 else Success) ≡ Success → s ≡ false
-    go true q r s h = let z : _≡_ {A = ℕ} 0 1 = cc in absurd (omega arith)
-    go false true r s h = let z : _≡_ {A = ℕ} 0 1 = cc in absurd (omega arith)
-    go false false true s h = let z : _≡_ {A = ℕ} 0 1 = cc in absurd (omega arith)
-    go false false false true h = let z : _≡_ {A = ℕ} 0 1 = cc in absurd (omega arith)
-    go false false false false h = refl
-
 module _ (chosen : ℕ → Bool) (v : View) (shut : Shut chosen (v .session)) where
   abbrev Harmless : Act → Type 0
   Harmless a = harmlessAct chosen (v .areas) a ≡ true
@@ -87,10 +74,10 @@ module _ (chosen : ℕ → Bool) (v : View) (shut : Shut chosen (v .session)) wh
   abbrev HarmlessWork : Work → Type 0
   HarmlessWork w = Harmless (w .act)
 
-  taken-harmless : (d : Verdict) (a : Act) → (d ≡ Success → Harmless a) → Harmless (taken d a)
+  granted-harmless : (d : Verdict) (a : Act) → (d ≡ Success → Harmless a) → Harmless (granted d a)
   unfolding harmlessAct
-  taken-harmless Success a h = h refl
-  taken-harmless (Error c) a h = refl
+  granted-harmless Success a h = h refl
+  granted-harmless (Error c) a h = refl
 
   blocks-harmless : (b n : ℕ) (bytes : List ℕ) → anyBarred v b n ≡ false → allHarmless chosen (v .areas) (blockUnits b n bytes) ≡ true
   unfolding blockUnits allHarmless harmless
@@ -117,25 +104,25 @@ module _ (chosen : ℕ → Bool) (v : View) (shut : Shut chosen (v .session)) wh
   unfolding actOf harmlessAct allHarmless harmless
   act-harmless StayQuiet t blocks e option fields = refl
   act-harmless Read t blocks e option fields =
-      taken-harmless (readVerdict v (limitOf e blocks) (firstOf e fields)) (lists (limitOf e blocks) (firstOf e fields) (moreOf e fields + 1) option) (λ h. refl)
+      granted-harmless (readVerdict v (limitOf e blocks) (firstOf e fields)) (lists (limitOf e blocks) (firstOf e fields) (moreOf e fields + 1) option) (λ h. refl)
   act-harmless Write t blocks e option fields =
-      taken-harmless (writeVerdict v (limitOf e blocks) (firstOf e fields) (moreOf e fields)) (writes (blockUnits (firstOf e fields) (moreOf e fields + 1) (dataOf e fields)))
-      (λ h. blocks-harmless (firstOf e fields) (moreOf e fields + 1) (dataOf e fields) (taken-unbarred v (limitOf e blocks) (firstOf e fields) (moreOf e fields) h))
-  act-harmless Lock t blocks e option fields = taken-harmless (lockVerdict v (firstOf e fields)) (writes (blockLock (firstOf e fields) ∷ [])) (λ h. refl)
+      granted-harmless (writeVerdict v (limitOf e blocks) (firstOf e fields) (moreOf e fields)) (writes (blockUnits (firstOf e fields) (moreOf e fields + 1) (dataOf e fields)))
+      (λ h. blocks-harmless (firstOf e fields) (moreOf e fields + 1) (dataOf e fields) (write-granted v (limitOf e blocks) (firstOf e fields) (moreOf e fields) h .unbarred))
+  act-harmless Lock t blocks e option fields = granted-harmless (lockVerdict v (firstOf e fields)) (writes (blockLock (firstOf e fields) ∷ [])) (λ h. refl)
   act-harmless Select t blocks e option fields = refl
   act-harmless ResetToReady t blocks e option fields = refl
-  act-harmless WriteAfi t blocks e option fields = taken-harmless (unless (t .lockafi) 0x12) (writes (afi (getD fields 0 0) ∷ [])) (λ h. refl)
-  act-harmless LockAfi t blocks e option fields = taken-harmless (unless (t .lockafi) 0x11) (writes (afiLock ∷ [])) (λ h. refl)
-  act-harmless WriteDsfid t blocks e option fields = taken-harmless (unless (t .lockdsfid) 0x12) (writes (dsfid (getD fields 0 0) ∷ [])) (λ h. refl)
-  act-harmless LockDsfid t blocks e option fields = taken-harmless (unless (t .lockdsfid) 0x11) (writes (dsfidLock ∷ [])) (λ h. refl)
+  act-harmless WriteAfi t blocks e option fields = granted-harmless (unless (t .lockafi) 0x12) (writes (afi (getD fields 0 0) ∷ [])) (λ h. refl)
+  act-harmless LockAfi t blocks e option fields = granted-harmless (unless (t .lockafi) 0x11) (writes (afiLock ∷ [])) (λ h. refl)
+  act-harmless WriteDsfid t blocks e option fields = granted-harmless (unless (t .lockdsfid) 0x12) (writes (dsfid (getD fields 0 0) ∷ [])) (λ h. refl)
+  act-harmless LockDsfid t blocks e option fields = granted-harmless (unless (t .lockdsfid) 0x11) (writes (dsfidLock ∷ [])) (λ h. refl)
   act-harmless Status t blocks e option fields =
-      taken-harmless (statusVerdict (limitOf e blocks) (firstOf e fields)) (says (body (statuses v (limitOf e blocks) (firstOf e fields) (moreOf e fields + 1)))) (λ h. refl)
+      granted-harmless (statusVerdict (limitOf e blocks) (firstOf e fields)) (says (body (statuses v (limitOf e blocks) (firstOf e fields) (moreOf e fields + 1)))) (λ h. refl)
   act-harmless ReadRegister t blocks e option fields = register-harmless (registerAt v (getD fields 0 0))
   act-harmless WriteRegister t blocks e option fields =
-      taken-harmless (writtenVerdict (writtenOf (lastEnd blocks) v (getD fields 0 0) (getD fields 1 0))) (writes (register (getD fields 0 0) (getD fields 1 0) ∷ []))
+      granted-harmless (writtenVerdict (writtenOf (lastEnd blocks) v (getD fields 0 0) (getD fields 1 0))) (writes (register (getD fields 0 0) (getD fields 1 0) ∷ []))
       (λ h. register-written (written-open (lastEnd blocks) v (getD fields 0 0) (getD fields 1 0) h))
   act-harmless WritePassword t blocks e option fields =
-      taken-harmless (changedVerdict (changedOf (v .session) (getD fields 0 0))) (writes (password (getD fields 0 0) (numberAt 8 fields 1) ∷ []))
+      granted-harmless (changedVerdict (changedOf (v .session) (getD fields 0 0))) (writes (password (getD fields 0 0) (numberAt 8 fields 1) ∷ []))
       (λ h. password-written (getD fields 0 0) (numberAt 8 fields 1) (changed-open (v .session) (getD fields 0 0) h))
   act-harmless Present t blocks e option fields = refl
   act-harmless Unlisted t blocks e option fields = refl

@@ -38,7 +38,7 @@ use Rattle.tag.specs.Table.{firstOf, moreOf, limitOf}
 use Rattle.tag.specs.Frame.{fieldsFrom, heardOf}
 use Rattle.tag.specs.Work.{Answer, silence, verdict, body, Unit, Act, says, lists, presents, writes, closes, Work, perform}
 use Rattle.tag.specs.Inventory.{oneSlot, maskLength, slotOf, inSlot, unheard, inventoryOf, nextSlot}
-use Rattle.tag.specs.Blocks.{taken, readVerdict, statusVerdict, writeVerdict, lockVerdict}
+use Rattle.tag.specs.Blocks.{granted, readVerdict, statusVerdict, writeVerdict, lockVerdict}
 use Rattle.tag.specs.Commands.{actOf, registerAnswer, unless, requestOf}
 use Rattle.tag.specs.Step.{Event, fieldOn, fieldOff, endOfFrame, request, dropped, workHeard, frameOf, roundEnds, frameEnds, workOf, sealed, lineOf, settled, step}
 use Rattle.tag.specs.Host.{isMemory, leastRoom}
@@ -93,12 +93,12 @@ perform-most t m closes = omega arith
 abbrev Fits : Act → Type 0
 Fits a = span a ≤ 10240
 
-taken-fits : (v : Verdict) (a : Act) → Fits a → Fits (taken v a)
-taken-fits Success a h = h
-taken-fits (Error c) a h = omega arith
+granted-fits : (v : Verdict) (a : Act) → Fits a → Fits (granted v a)
+granted-fits Success a h = h
+granted-fits (Error c) a h = omega arith
 
-write-fits : (v : Verdict) (us : List Unit) → Fits (taken v (writes us))
-write-fits v us = taken-fits v (writes us) (omega arith)
+write-fits : (v : Verdict) (us : List Unit) → Fits (granted v (writes us))
+write-fits v us = granted-fits v (writes us) (omega arith)
 
 register-fits : (r : RegisterRead) → Fits (registerAnswer r)
 register-fits read.Unknown = omega arith
@@ -114,7 +114,7 @@ act-fits : (c : Command) (t : Front) (v : View) (blocks : ℕ) (e : Entry) (opti
 unfolding actOf
 act-fits StayQuiet t v blocks e option fields h = omega arith
 act-fits Read t v blocks e option fields h =
-    taken-fits (readVerdict v (limitOf e blocks) (firstOf e fields)) _ (omega (arith, limit-within e blocks))
+    granted-fits (readVerdict v (limitOf e blocks) (firstOf e fields)) _ (omega (arith, limit-within e blocks))
 act-fits Write t v blocks e option fields h =
     write-fits (writeVerdict v (limitOf e blocks) (firstOf e fields) (moreOf e fields)) _
 act-fits Lock t v blocks e option fields h = write-fits (lockVerdict v (firstOf e fields)) _
@@ -125,7 +125,7 @@ act-fits LockAfi t v blocks e option fields h = write-fits (unless (t .lockafi) 
 act-fits WriteDsfid t v blocks e option fields h = write-fits (unless (t .lockdsfid) 0x12) _
 act-fits LockDsfid t v blocks e option fields h = write-fits (unless (t .lockdsfid) 0x11) _
 act-fits Status t v blocks e option fields h =
-    taken-fits (statusVerdict (limitOf e blocks) (firstOf e fields)) _
+    granted-fits (statusVerdict (limitOf e blocks) (firstOf e fields)) _
     (omega (arith, limit-within e blocks, statuses-within v (limitOf e blocks) (firstOf e fields) (moreOf e fields + 1)))
 act-fits ReadRegister t v blocks e option fields h = register-fits (registerAt v (getD fields 0 0))
 act-fits WriteRegister t v blocks e option fields h =

@@ -8,6 +8,7 @@ pub mod Sound
 pub mod Alters
 pub mod Calls
 pub mod Listing
+pub mod Writes
 pub mod Lengths
 pub mod Ranges
 pub mod Bytes

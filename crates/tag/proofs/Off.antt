@@ -17,7 +17,8 @@ use Rattle.record.specs.declared.Round.the-variants as round
 use Rattle.record.specs.declared.Held.{Held}
 use Rattle.record.specs.declared.Held.the-variants as held
 use Rattle.record.specs.Update.{powered}
-use Rattle.tag.specs.Rules.{lastEnd, isReady, noRound, noneHeld, offRule, roundRule, heldRule, togetherRule, sound}
+use Rattle.record.specs.Tests.{isReady, noRound, noneHeld}
+use Rattle.tag.specs.Rules.{lastEnd, offRule, roundRule, heldRule, togetherRule, sound}
 
 pub record Sound (blocks : ℕ) (t : Tag) : Type 0 where
   pub registers : possible (lastEnd blocks) (t .vault .areas) ≡ true

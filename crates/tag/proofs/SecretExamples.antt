@@ -123,7 +123,7 @@ events =
     ∷ request (bytes 5 0x0220080FDC)
     ∷ request (bytes 6 0x022C0701B13F)
     ∷ request (bytes 9 0x022108DEADBEEFB579)
-    -- a write that is taken
+    -- a write that is granted
     ∷ request (bytes 9 0x022100DEADBEEF9523)
     -- wrong values under the chosen number and under 0
     ∷ request (bytes 14 0x02B3020133333333333333335A0C)

@@ -10,7 +10,7 @@ use borrow.Author.Tests.{ltb-true, ltb-false, le-leb}
 use Rattle.rights.specs.Vault.{viewOf}
 use Rattle.rights.specs.Registers.{possible}
 use Rattle.rights.proofs.Cases.{if-one, both, join, neither}
-use Rattle.rights.proofs.Kept.{all-at-end}
+use Rattle.rights.proofs.Possible.{all-at-end}
 use Rattle.record.specs.declared.Front.{Front}
 use Rattle.record.specs.declared.Tag.{Tag}
 use Rattle.record.specs.declared.State.the-variants.{Ready}
@@ -19,10 +19,11 @@ use Rattle.record.specs.declared.Round.the-variants as round
 use Rattle.record.specs.declared.Held.{Held}
 use Rattle.record.specs.declared.Held.the-variants as held
 use Rattle.record.specs.Update.{withState, withRound, withFront, powered}
+use Rattle.record.specs.Tests.{isQuiet, noRound, noneHeld}
 use Rattle.tag.specs.declared.Entry.{Entry}
 use Rattle.tag.specs.declared.Heard.{Heard}
 use Rattle.tag.specs.declared.Heard.the-variants as heard
-use Rattle.tag.specs.Rules.{blocksOf, lastEnd, isQuiet, noRound, noneHeld, offRule, roundRule, heldRule, togetherRule, sound}
+use Rattle.tag.specs.Rules.{blocksOf, lastEnd, offRule, roundRule, heldRule, togetherRule, sound}
 use Rattle.tag.specs.Frame.{fieldsFrom, heardOf}
 use Rattle.tag.specs.Work.{Answer, silence, verdict, body, Work, perform}
 use Rattle.tag.specs.Inventory.{oneSlot, maskLength, maskTooLong, wrongLength, unheard, inventoryOf, nextSlot}

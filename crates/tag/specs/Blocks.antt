@@ -12,10 +12,10 @@ use Rattle.rights.specs.declared.Verdict.the-variants.{Success, Error}
 use Rattle.rights.specs.Blocks.{readableAt, writableAt, lockedAt, statusAt, crossesAt, anyBarred}
 use Rattle.tag.specs.Work.{body, error, Unit, block, blockLock, Act, says, lists, writes}
 
--- what is refused says so, and what is taken is done
-abbrev pub taken : Verdict → Act → Act
-taken Success a = a
-taken (Error c) a = says (error c)
+-- what is refused says so, and what is granted is done
+abbrev pub granted : Verdict → Act → Act
+granted Success a = a
+granted (Error c) a = says (error c)
 
 -- "First block outside: 10h. First block not readable: 15h. Otherwise the list"
 unfoldable pub readVerdict : View → ℕ → ℕ → Verdict
@@ -24,7 +24,7 @@ readVerdict v limit first =
     if not (readableAt v first) then Error 0x15 else Success
 
 abbrev pub readOf : View → ℕ → ℕ → ℕ → Bool → Act
-readOf v limit first count status = taken (readVerdict v limit first) (lists limit first count status)
+readOf v limit first count status = granted (readVerdict v limit first) (lists limit first count status)
 
 -- "status bytes alone: outside answers 10h or cuts as above, readability does not"
 unfoldable pub statuses : View → ℕ → ℕ → ℕ → List ℕ
@@ -35,7 +35,7 @@ unfoldable pub statusVerdict : ℕ → ℕ → Verdict
 statusVerdict limit first = if leb limit first then Error 0x10 else Success
 
 abbrev pub statusOf : View → ℕ → ℕ → ℕ → Act
-statusOf v limit first count = taken (statusVerdict limit first) (says (body (statuses v limit first count)))
+statusOf v limit first count = granted (statusVerdict limit first) (says (body (statuses v limit first count)))
 
 -- "count over 4 is 0Fh; any block outside 10h; area border crossed 0Fh; any block not writable or locked 12h". Of the first block and so many
 -- more: the last one is outside where any is
@@ -52,7 +52,7 @@ blockUnits b zero bytes = []
 blockUnits b (suc n) bytes = block b (take 4 bytes) ∷ blockUnits (b + 1) n (drop 4 bytes)
 
 abbrev pub writeOf : View → ℕ → ℕ → ℕ → List ℕ → Act
-writeOf v limit first more bytes = taken (writeVerdict v limit first more) (writes (blockUnits first (more + 1) bytes))
+writeOf v limit first more bytes = granted (writeVerdict v limit first more) (writes (blockUnits first (more + 1) bytes))
 
 -- "block over 1 is 10h; already locked 11h; not writable 14h"
 unfoldable pub lockVerdict : View → ℕ → Verdict
@@ -62,4 +62,4 @@ lockVerdict v b =
     if not (writableAt v b) then Error 0x14 else Success
 
 abbrev pub lockOf : View → ℕ → Act
-lockOf v b = taken (lockVerdict v b) (writes (blockLock b ∷ []))
+lockOf v b = granted (lockVerdict v b) (writes (blockLock b ∷ []))

@@ -24,7 +24,7 @@ use Rattle.tag.specs.declared.Entry.{Entry}
 use Rattle.tag.specs.Rules.{lastEnd}
 use Rattle.tag.specs.Table.{firstOf, moreOf, dataOf, limitOf}
 use Rattle.tag.specs.Work.{silence, verdict, body, error, afi, dsfid, afiLock, dsfidLock, register, password, Act, says, presents, writes, Work}
-use Rattle.tag.specs.Blocks.{taken, readOf, statusOf, writeOf, lockOf}
+use Rattle.tag.specs.Blocks.{granted, readOf, statusOf, writeOf, lockOf}
 
 -- the state after a command: "Select 25h (Selected), Reset to Ready 26h (Ready) .. Stay Quiet 02h gives Quiet"
 abbrev pub frontAfter : Command → Front → Front
@@ -64,18 +64,18 @@ actOf Write t v blocks e option fields =
 actOf Lock t v blocks e option fields = lockOf v (firstOf e fields)
 actOf Select t v blocks e option fields = says (verdict Success)
 actOf ResetToReady t v blocks e option fields = says (verdict Success)
-actOf WriteAfi t v blocks e option fields = taken (unless (t .lockafi) 0x12) (writes (afi (getD fields 0 0) ∷ []))
-actOf LockAfi t v blocks e option fields = taken (unless (t .lockafi) 0x11) (writes (afiLock ∷ []))
-actOf WriteDsfid t v blocks e option fields = taken (unless (t .lockdsfid) 0x12) (writes (dsfid (getD fields 0 0) ∷ []))
-actOf LockDsfid t v blocks e option fields = taken (unless (t .lockdsfid) 0x11) (writes (dsfidLock ∷ []))
+actOf WriteAfi t v blocks e option fields = granted (unless (t .lockafi) 0x12) (writes (afi (getD fields 0 0) ∷ []))
+actOf LockAfi t v blocks e option fields = granted (unless (t .lockafi) 0x11) (writes (afiLock ∷ []))
+actOf WriteDsfid t v blocks e option fields = granted (unless (t .lockdsfid) 0x12) (writes (dsfid (getD fields 0 0) ∷ []))
+actOf LockDsfid t v blocks e option fields = granted (unless (t .lockdsfid) 0x11) (writes (dsfidLock ∷ []))
 actOf Status t v blocks e option fields =
     statusOf v (limitOf e blocks) (firstOf e fields) (moreOf e fields + 1)
 actOf ReadRegister t v blocks e option fields = registerAnswer (registerAt v (getD fields 0 0))
 actOf WriteRegister t v blocks e option fields =
-    taken (writtenVerdict (writtenOf (lastEnd blocks) v (getD fields 0 0) (getD fields 1 0)))
+    granted (writtenVerdict (writtenOf (lastEnd blocks) v (getD fields 0 0) (getD fields 1 0)))
     (writes (register (getD fields 0 0) (getD fields 1 0) ∷ []))
 actOf WritePassword t v blocks e option fields =
-    taken (changedVerdict (changedOf (v .session) (getD fields 0 0))) (writes (password (getD fields 0 0) (numberAt 8 fields 1) ∷ []))
+    granted (changedVerdict (changedOf (v .session) (getD fields 0 0))) (writes (password (getD fields 0 0) (numberAt 8 fields 1) ∷ []))
 actOf Present t v blocks e option fields = presents (getD fields 0 0) (numberAt 8 fields 1)
 actOf Unlisted t v blocks e option fields = says (error 0x02)
 

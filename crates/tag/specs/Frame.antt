@@ -9,13 +9,13 @@ use Rattle.put.specs.If.{if_then_else_}
 use Rattle.put.specs.Number.{numberAt}
 use Rattle.crc.specs.Crc.{crcOf}
 use Rattle.record.specs.declared.Front.{Front}
+use Rattle.record.specs.Tests.{isQuiet, isSelected}
 use Rattle.tag.specs.declared.Command.{Command}
 use Rattle.tag.specs.declared.Command.the-variants.{StayQuiet, Read, Write, Lock, Select, ResetToReady, WriteAfi, LockAfi, WriteDsfid, LockDsfid, Status, ReadRegister, WriteRegister, WritePassword, Present, Unlisted}
 use Rattle.tag.specs.declared.OptionRule.{OptionRule}
 use Rattle.tag.specs.declared.OptionRule.the-variants.{Refused, Taken, Holds}
 use Rattle.tag.specs.declared.Heard.{Heard}
 use Rattle.tag.specs.declared.Heard.the-variants as heard
-use Rattle.tag.specs.Rules.{isQuiet, isSelected}
 use Rattle.tag.specs.Table.{entryOf, lengthOf}
 
 -- bit k of a byte, counting from 0, and flag bit k, "counting from 1"

@@ -9,7 +9,7 @@ use Rattle.put.specs.If.{if_then_else_}
 use Rattle.put.specs.Number.{numberAt, bytesOf}
 use Rattle.rights.specs.declared.Areas.{Areas}
 use Rattle.rights.specs.declared.Session.the-variants as session
-use Rattle.rights.specs.Registers.{possible}
+use Rattle.rights.specs.Registers.{registersOf, possible}
 use Rattle.record.specs.declared.Tag.{Tag}
 use Rattle.record.specs.declared.State.the-variants.{Ready}
 use Rattle.record.specs.declared.Round.the-variants as round
@@ -74,9 +74,6 @@ oneIf false = 0
 abbrev pub lockByte : Tag → ℕ
 lockByte t =
     oneIf (t .vault .lock0) + 2 * oneIf (t .vault .lock1) + 4 * oneIf (t .front .lockafi) + 8 * oneIf (t .front .lockdsfid) + 16 * oneIf (t .vault .lockcfg)
-
-abbrev pub registersOf : Areas → List ℕ
-registersOf a = a .rfa1ss ∷ a .enda1 ∷ a .rfa2ss ∷ a .enda2 ∷ a .rfa3ss ∷ a .enda3 ∷ a .rfa4ss ∷ []
 
 abbrev pub passwordBytes : List ℕ → List ℕ
 passwordBytes ps = bytesOf 8 (getD ps 0 0) ++ bytesOf 8 (getD ps 1 0) ++ bytesOf 8 (getD ps 2 0) ++ bytesOf 8 (getD ps 3 0)

@@ -10,7 +10,7 @@ use Rattle.put.specs.Number.{numberAt, bytesOf}
 use Rattle.record.specs.declared.Front.{Front}
 use Rattle.record.specs.declared.Round.the-variants as round
 use Rattle.record.specs.Update.{withRound}
-use Rattle.tag.specs.Rules.{isQuiet}
+use Rattle.record.specs.Tests.{isQuiet}
 use Rattle.tag.specs.Frame.{flagBit, endOf, fieldsFrom}
 use Rattle.tag.specs.Work.{Answer, silence, body, Work, work, says}
 

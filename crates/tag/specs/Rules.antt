@@ -1,7 +1,7 @@
 -- "Record rules": each a definition of its own, joined in `sound`. Those of the registers are `possible`, of the crate rights.
 -- Assumes nothing.
 use Prim.Native.Nat.{ℕ, _-_, _/_}
-use mathlib.Core.Bool.{Bool, true, false, not, _&&_, _||_}
+use mathlib.Core.Bool.{Bool, true, not, _&&_, _||_}
 use mathlib.Core.List.{List}
 use lib.ListN.{length}
 use lib.Dec.{leb, eqb}
@@ -11,12 +11,11 @@ use Rattle.rights.specs.Passwords.{anyOpen}
 use Rattle.rights.specs.Registers.{possible}
 use Rattle.record.specs.declared.Front.{Front}
 use Rattle.record.specs.declared.Tag.{Tag}
-use Rattle.record.specs.declared.State.{State}
-use Rattle.record.specs.declared.State.the-variants.{Ready, Quiet, Selected}
 use Rattle.record.specs.declared.Round.{Round}
 use Rattle.record.specs.declared.Round.the-variants as round
 use Rattle.record.specs.declared.Held.{Held}
 use Rattle.record.specs.declared.Held.the-variants as held
+use Rattle.record.specs.Tests.{isReady, isQuiet, noRound, noneHeld}
 
 -- "4 bytes a block", and E: 63 for 512 blocks, 255 for 2,048
 abbrev pub blocksOf : List ℕ → ℕ
@@ -24,29 +23,6 @@ blocksOf m = length m / 4
 
 abbrev pub lastEnd : ℕ → ℕ
 lastEnd blocks = blocks / 8 - 1
-
-abbrev pub isReady : State → Bool
-isReady Ready = true
-isReady Quiet = false
-isReady Selected = false
-
-abbrev pub isQuiet : State → Bool
-isQuiet Ready = false
-isQuiet Quiet = true
-isQuiet Selected = false
-
-abbrev pub isSelected : State → Bool
-isSelected Ready = false
-isSelected Quiet = false
-isSelected Selected = true
-
-abbrev pub noRound : Round → Bool
-noRound round.None = true
-noRound (round.Open slot mask) = false
-
-abbrev pub noneHeld : Held → Bool
-noneHeld held.None = true
-noneHeld (held.Answer v) = false
 
 -- "With the field off nothing passing is set and the state is Ready."
 unfoldable pub offRule : Front → Session → Bool

@@ -1,12 +1,12 @@
 -- `rights::registers::write_register` meets its contract.
 -- Assumes nothing.
-use Rattle.rights.specs.Registers.{writeOf}
+use Rattle.rights.specs.Registers.{registerWriteOf}
 use borrow.Author.Needs.{needs}
 use Rattle.rights.proofs.registers.write_register.Statement.{statement}
 use Rattle.rights.proofs.registers.write_register.Tie as tie
 
 pub write-register-spec : {M : Type 1} → statement M
-unfolding writeOf
+unfolding registerWriteOf
 write-register-spec =
     tie.close
     (tie.spec

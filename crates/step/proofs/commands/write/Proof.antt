@@ -4,7 +4,7 @@ use mathlib.Core.Path.{sym, _∙_}
 use Prim.Native.Nat.{_+_, _/_}
 use lib.ListN.{length}
 use Rattle.put.proofs.Lists.{tail, tail-room}
-use Rattle.blocks.proofs.Units.{write-taken}
+use Rattle.tag.proofs.Writes.{write-granted}
 use Rattle.tag.specs.Table.{headOf, dataOf}
 use Rattle.step.proofs.Acts.{blocks-written}
 use Rattle.tag.specs.Work.{perform}
@@ -29,7 +29,7 @@ write-spec =
     (λ c. omega (arith, c .before .head .ensures, c .before .before .before .before .before .before .before .before .before .before .before .before .before .pre .0))
     (λ c. omega (arith, c .before .head .ensures, c .before .before .before .before .before .before .before .before .before .before .before .before .before .pre .0))
     (λ c. search needs)
-    (λ c κs. let w = write-taken _ _ _ _ (sym (c .before .before .before .before .before .write-verdict .ensures) ∙ c .before .before .before .enum-told .given .1) in let h = limit-within (c .before .before .before .before .before .before .before .before .before .before .before .before .before .before .args .e) (length (c .before .before .before .before .before .before .before .before .before .before .before .before .before .before .args .memory .now) / 4) in (omega (arith, w .1, h, c .before .before .before .before .before .before .before .before .before .limit .ensures), tail-room (c .before .before .before .before .before .before .before .before .before .before .before .before .before .before .args .fields .now) _ _ (omega (arith, c .before .before .head .ensures, c .before .before .before .before .before .before .before .more-blocks .ensures, c .before .before .before .before .before .before .before .before .before .before .before .before .before .before .pre .0))))
+    (λ c κs. let w = write-granted _ _ _ _ (sym (c .before .before .before .before .before .write-verdict .ensures) ∙ c .before .before .before .enum-told .given .1) in let h = limit-within (c .before .before .before .before .before .before .before .before .before .before .before .before .before .before .args .e) (length (c .before .before .before .before .before .before .before .before .before .before .before .before .before .before .args .memory .now) / 4) in (omega (arith, w .within, h, c .before .before .before .before .before .before .before .before .before .limit .ensures), tail-room (c .before .before .before .before .before .before .before .before .before .before .before .before .before .before .args .fields .now) _ _ (omega (arith, c .before .before .head .ensures, c .before .before .before .before .before .before .before .more-blocks .ensures, c .before .before .before .before .before .before .before .before .before .before .before .before .before .before .pre .0))))
     (λ c κs. omega (arith, c .before .before .before .before .before .before .before .before .before .before .before .before .before .before .before .before .before .before .pre))
     (λ c. search needs)
     (λ c κs. omega (arith, c .before .before .before .before .before .before .before .before .before .before .before .before .pre))

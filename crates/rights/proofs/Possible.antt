@@ -4,7 +4,6 @@ use mathlib.Core.Path.{_≡_, refl}
 use mathlib.Core.Bool.{Bool, true, false, not}
 use Prim.Native.Nat.{ℕ}
 use native.Mathlib.Omega.{arith}
-use native.Mathlib.Decide.{ℕ-discrete}
 use lib.Dec.{leb, ltb, eqb}
 use borrow.Author.Tests.{eqb-true, leb-true, ltb-true, le-leb, eq-eqb, ne-eqb}
 use Rattle.put.specs.If.{if_then_else_}
@@ -16,9 +15,10 @@ use Rattle.rights.specs.declared.Verdict.the-variants.{Success, Error}
 use Rattle.rights.specs.declared.registers.Written.{Written}
 use Rattle.rights.specs.declared.registers.Written.the-variants as written
 use Rattle.rights.specs.Vault.{viewOf}
-use Rattle.rights.specs.Registers.{isRegister, allows, permits, writtenOf, withRegister, writtenVerdict, writeOf, registerRule, endRule, pairRule, possible}
-use Rattle.rights.specs.Kept.{kept}
+use Rattle.rights.specs.Registers.{isRegister, allows, permits, writtenOf, withRegister, writtenVerdict, registerWriteOf, registerRule, endRule, pairRule, possible}
+use Rattle.rights.specs.Verdict.{afterVerdict}
 use Rattle.rights.proofs.Cases.{or-true, not-or, both, join}
+use Rattle.rights.proofs.Addresses.{each-address, nothing-written}
 
 -- the rules, one by one
 pub record Registers (f g h i : ℕ) : Type 0 where
@@ -143,20 +143,9 @@ module _ (e : ℕ) (v : Vault) (x : ℕ) (p : Possible e (v .areas)) where
   unfolding withRegister
   lockcfg h = p
 
-  -- a case for each address, and the rest
-  at : (n address : ℕ) → Keeps n → ((address ≡ n → ⊥) → Keeps address) → Keeps address
-  at n address k other = go (ℕ-discrete address n)
-    where
-      go : Dec (address ≡ n) → Keeps address
-      go (yes d) = rw d k
-      go (no d) = other d
-
-  pub keeps : (address : ℕ) → Keeps address
-  unfolding withRegister
+  keeps : (address : ℕ) → Keeps address
   keeps address =
-      at 0x04 address rfa1ss (λ a. at 0x05 address enda1 (λ b. at 0x06 address rfa2ss (λ c. at 0x07 address enda2 (λ d.
-      at 0x08 address rfa3ss (λ g. at 0x09 address enda3 (λ i. at 0x0A address rfa4ss (λ j. at 0x0F address lockcfg (λ k h.
-      simp (ne-eqb _ _ a, ne-eqb _ _ b, ne-eqb _ _ c, ne-eqb _ _ d, ne-eqb _ _ g, ne-eqb _ _ i, ne-eqb _ _ j, ne-eqb _ _ k) p))))))))
+      each-address Keeps address rfa1ss enda1 rfa2ss enda2 rfa3ss enda3 rfa4ss lockcfg (λ n h. rw (nothing-written v x n) p)
 
 -- a write is done only where it is permitted and allowed
 pub done-allowed : (e : ℕ) (v : View) (address x : ℕ) → writtenOf e v address x ≡ written.Done → (permits v ≡ true) × (allows e (v .areas) address x ≡ true)
@@ -173,15 +162,15 @@ done-allowed e v address x h = go (isRegister address) (permits v) (allows e (v 
 pub done-possible : (e : ℕ) (v : Vault) (address x : ℕ) → possible e (v .areas) ≡ true → writtenOf e (viewOf v) address x ≡ written.Done → possible e (withRegister v address x .areas) ≡ true
 done-possible e v address x p h = ruled (keeps e v x (rules p) address (done-allowed e (viewOf v) address x h .1))
 
-after : (e : ℕ) (v : Vault) (address x : ℕ) (w : Written) → possible e (v .areas) ≡ true → (w ≡ written.Done → possible e (withRegister v address x .areas) ≡ true) → possible e ((kept (writtenVerdict w) v (withRegister v address x)) .areas) ≡ true
+after : (e : ℕ) (v : Vault) (address x : ℕ) (w : Written) → possible e (v .areas) ≡ true → (w ≡ written.Done → possible e (withRegister v address x .areas) ≡ true) → possible e ((afterVerdict (writtenVerdict w) v (withRegister v address x)) .areas) ≡ true
 after e v address x written.Unknown p h = p
 after e v address x written.NotPermitted p h = p
 after e v address x written.NotAllowed p h = p
 after e v address x written.Done p h = h refl
 
 -- the theorem: whatever is written, possible registers stay possible, for any E
-pub stays-possible : (e : ℕ) (v : Vault) (address x : ℕ) → possible e (v .areas) ≡ true → possible e (writeOf e v address x .vault .areas) ≡ true
-unfolding writeOf
+pub stays-possible : (e : ℕ) (v : Vault) (address x : ℕ) → possible e (v .areas) ≡ true → possible e (registerWriteOf e v address x .vault .areas) ≡ true
+unfolding registerWriteOf
 stays-possible e v address x p =
     after e v address x (writtenOf e (viewOf v) address x) p (done-possible e v address x p)
 
@@ -197,11 +186,11 @@ all-at-end e =
     })
 
 -- what a write gives, by its parts
-pub write-is : (e : ℕ) (v : Vault) (address x : ℕ) → writeOf e v address x ≡ record { answer = writtenOf e (viewOf v) address x; vault = kept (writtenVerdict (writtenOf e (viewOf v) address x)) v (withRegister v address x) }
-unfolding writeOf
+pub write-is : (e : ℕ) (v : Vault) (address x : ℕ) → registerWriteOf e v address x ≡ record { answer = writtenOf e (viewOf v) address x; vault = afterVerdict (writtenVerdict (writtenOf e (viewOf v) address x)) v (withRegister v address x) }
+unfolding registerWriteOf
 write-is e v address x = refl
 
--- what is kept or new, seen through a function
-pub kept-over {ℓ κ} : {A : Type ℓ} {B : Type κ} (f : A → B) (v : Verdict) (old new : A) → f (kept v old new) ≡ kept v (f old) (f new)
-kept-over f Success old new = refl
-kept-over f (Error c) old new = refl
+-- what stays or is made new, seen through a function
+pub verdict-over {ℓ κ} : {A : Type ℓ} {B : Type κ} (f : A → B) (v : Verdict) (old new : A) → f (afterVerdict v old new) ≡ afterVerdict v (f old) (f new)
+verdict-over f Success old new = refl
+verdict-over f (Error c) old new = refl
