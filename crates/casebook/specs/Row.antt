@@ -1,4 +1,4 @@
--- The answer line of a call: "`number length answer tag memory room`".
+-- The answer line of a call: "`number length answer record memory room`".
 -- Assumes nothing.
 use Prim.Native.Nat.{ℕ, _/_, _%_}
 use mathlib.Core.List.{List, [], _∷_, _++_}

@@ -26,7 +26,7 @@ use Rattle.tag.specs.Commands.{actOf, requestOf}
 use Rattle.tag.specs.Step.{Event, fieldOn, request, frameOf, workOf, sealed, step}
 use Rattle.tag.specs.Image.{factory}
 use Rattle.tag.specs.Host.{isMemory, leastRoom, eventGiven, EventGives}
-use Rattle.tag.proofs.Starred.{bytes, ours}
+use Rattle.tag.specs.Cases.{bytes, ours}
 use Rattle.tag.proofs.Sound.{step-sound, factory-sound}
 
 -- a factory tag of 16 Kbit in the field, and its memory

@@ -28,7 +28,7 @@ use Rattle.tag.specs.Commands.{actOf, requestOf}
 use Rattle.tag.specs.Step.{Event, fieldOn, fieldOff, endOfFrame, request, frameOf, workOf, step, run}
 use Rattle.tag.specs.Image.{factory}
 use Rattle.tag.specs.Secrecy.{hidden, SameBut, Alike, Shut, presented, unopened, Secret, only}
-use Rattle.tag.proofs.Starred.{bytes, ours}
+use Rattle.tag.specs.Cases.{bytes, ours}
 use Rattle.tag.proofs.Secret.{secrecy}
 
 -- ---- `SameBut`, by computation

@@ -9,3 +9,4 @@ pub mod Step
 pub mod Image
 pub mod Host
 pub mod Secrecy
+pub mod Cases
