@@ -3,6 +3,7 @@ use super::rules::mark;
 use put::copy;
 use put::put_number;
 use record::Tag;
+use rights::registers::one_if;
 ghost use mathlib.Core.Path.{_≡_};
 ghost use mathlib.Core.List.{_∷_};
 ghost use Prim.Native.Nat.{_+_, _≤_};
@@ -10,16 +11,7 @@ ghost use lib.ListN.{length, replicate};
 ghost use Rattle.put.specs.Put.{Put};
 ghost use Rattle.put.specs.Number.{bytesOf};
 ghost use Rattle.rights.specs.Registers.{registersOf};
-ghost use Rattle.tag.specs.Image.{markOf, oneIf, lockByte, passwordBytes, headerOf, imageOf};
-
-pub fn one_if(set: bool) -> u8
-    ensures { λ r. ⌜ (r ≡ oneIf set) × (r ≤ 1) ⌝ }
-{
-    if set {
-        return 1;
-    }
-    0
-}
+ghost use Rattle.tag.specs.Image.{markOf, lockByte, passwordBytes, headerOf, imageOf};
 
 // "11 locks (bits 0, 1 blocks 0, 1; bit 2 AFI; bit 3 DSFID; bit 4 LOCK_CFG; others 0)"
 fn lock_byte(t: Tag) -> u8

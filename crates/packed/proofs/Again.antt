@@ -13,6 +13,7 @@ use Rattle.put.proofs.RoundTrips.{placesAt, all-places}
 use Rattle.rights.specs.declared.Session.{Session}
 use Rattle.rights.specs.declared.Session.the-variants as session
 use Rattle.rights.specs.declared.Verdict.the-variants as verdict
+use Rattle.rights.specs.Registers.{oneIf}
 use Rattle.rights.proofs.Cases.{both, join}
 use Rattle.record.specs.declared.Tag.{Tag}
 use Rattle.record.specs.declared.State.{State}
@@ -22,7 +23,7 @@ use Rattle.record.specs.declared.Round.the-variants as round
 use Rattle.record.specs.declared.Held.{Held}
 use Rattle.record.specs.declared.Held.the-variants as held
 use Rattle.tag.specs.Rules.{blocksOf, sound}
-use Rattle.tag.specs.Image.{markOf, tagIn, lockRule, zeros, reservedRule, oneIf, headerOf}
+use Rattle.tag.specs.Image.{markOf, tagIn, lockRule, zeros, reservedRule, headerOf}
 use Rattle.tag.proofs.Headers.{Lasting, header-says, header-again}
 use Rattle.packed.specs.Bytes.{recordLength, stateIn, sessionIn, roundIn, heldIn, recordIn, lastingRule, valueRule, unusedRule, recordRule, isRecord, stateByte, sessionByte, openByte, slotByte, maskByte, heldByte, codeByte, passingOf, recordOf}
 

@@ -12,6 +12,7 @@ use Rattle.rights.specs.declared.Session.{Session}
 use Rattle.rights.specs.declared.Session.the-variants as session
 use Rattle.rights.specs.declared.Verdict.the-variants as verdict
 use Rattle.rights.specs.declared.Vault.{Vault}
+use Rattle.rights.specs.Registers.{oneIf}
 use Rattle.record.specs.declared.Front.{Front}
 use Rattle.record.specs.declared.Tag.{Tag}
 use Rattle.record.specs.declared.State.{State}
@@ -22,7 +23,7 @@ use Rattle.record.specs.declared.Held.{Held}
 use Rattle.record.specs.declared.Held.the-variants as held
 use Rattle.record.specs.Update.{withKeys}
 use Rattle.tag.specs.Rules.{blocksOf, sound}
-use Rattle.tag.specs.Image.{markOf, tagIn, lockRule, reservedRule, oneIf, headerOf}
+use Rattle.tag.specs.Image.{markOf, tagIn, lockRule, reservedRule, headerOf}
 
 -- the one place that says how long a record is; `include/uistermo.h` has the same number
 abbrev pub recordLength : ℕ

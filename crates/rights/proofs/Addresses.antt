@@ -8,13 +8,12 @@ use native.Mathlib.Omega.{arith}
 use native.Mathlib.Decide.{ℕ-discrete}
 use lib.Dec.{leb, eqb}
 use borrow.Author.Tests.{leb-true, ne-eqb}
-use Rattle.put.specs.If.{if_then_else_}
 use Rattle.rights.specs.declared.Vault.{Vault}
 use Rattle.rights.specs.declared.View.{View}
 use Rattle.rights.specs.declared.registers.RegisterRead.{RegisterRead}
 use Rattle.rights.specs.declared.registers.RegisterRead.the-variants as read
 use Rattle.rights.specs.Vault.{viewOf}
-use Rattle.rights.specs.Registers.{registerAt, isRegister, allows, withRegister}
+use Rattle.rights.specs.Registers.{oneIf, registerAt, isRegister, allows, withRegister}
 use Rattle.rights.proofs.Cases.{both}
 
 -- an address of no register
@@ -83,7 +82,7 @@ module _ (v : Vault) (x : ℕ) where
       rw (ne-eqb _ _ (n .not04), ne-eqb _ _ (n .not05), ne-eqb _ _ (n .not06), ne-eqb _ _ (n .not07), ne-eqb _ _ (n .not08), ne-eqb _ _ (n .not09), ne-eqb _ _ (n .not0A), ne-eqb _ _ (n .not0F))
 
   -- LOCK_CFG is a bit
-  bit-read : (y : ℕ) → leb y 0x01 ≡ true → read.Value (if eqb y 0x01 then 1 else 0) ≡ read.Value y
+  bit-read : (y : ℕ) → leb y 0x01 ≡ true → read.Value (oneIf (eqb y 0x01)) ≡ read.Value y
   bit-read zero h = refl
   bit-read (suc zero) h = refl
   bit-read (suc (suc y)) h = absurd (omega (arith, leb-true (suc (suc y)) 0x01 h))

@@ -1,12 +1,12 @@
 -- Numbers in their ranges: status bytes, what is read of a register, and a vault, which stays in range as a byte is written to a register.
 -- Assumes nothing.
 use mathlib.Core.Path.{_≡_}
+use mathlib.Core.Bool.{Bool, true, false}
 use mathlib.Core.List.{List, [], _∷_}
-use Prim.Native.Nat.{ℕ, _^_, _<_}
+use Prim.Native.Nat.{ℕ, _^_, _≤_, _<_}
 use native.Mathlib.Omega.{arith}
 use lib.ListN.{length}
 use lib.Dec.{eqb}
-use Rattle.put.specs.If.{if_then_else_}
 use Rattle.put.proofs.Bytes.{Below, Bytes, none, more}
 use Rattle.rights.specs.declared.Areas.{Areas}
 use Rattle.rights.specs.declared.Vault.{Vault}
@@ -14,12 +14,16 @@ use Rattle.rights.specs.declared.View.{View}
 use Rattle.rights.specs.declared.registers.RegisterRead.{RegisterRead}
 use Rattle.rights.specs.declared.registers.RegisterRead.the-variants as read
 use Rattle.rights.specs.Blocks.{barredAt, statusAt}
-use Rattle.rights.specs.Registers.{registersOf, registerAt, withAreas, withRegister}
+use Rattle.rights.specs.Registers.{oneIf, registersOf, registerAt, withAreas, withRegister}
 use Rattle.rights.proofs.Cases.{if-one}
 
 pub status-byte : (v : View) (b : ℕ) → statusAt v b < 256
 unfolding statusAt
 status-byte v b = if-one (λ (x : ℕ). x < 256) (barredAt v b) (λ e. omega arith) (λ e. omega arith)
+
+pub at-most-one : (b : Bool) → oneIf b ≤ 1
+at-most-one true = omega arith
+at-most-one false = omega arith
 
 -- the byte that is read of a register
 abbrev pub told : RegisterRead → List ℕ
@@ -32,7 +36,7 @@ Told r = Bytes (told r)
 pub read-bytes : (v : View) (address : ℕ) → Bytes (registersOf (v .areas)) → Bytes (told (registerAt v address))
 unfolding registerAt
 read-bytes v address (more a (more b (more c (more d (more f (more g (more h none))))))) =
-    let bit : (if v .lockcfg then 1 else 0) < 256 = if-one (λ (x : ℕ). x < 256) (v .lockcfg) (λ e. omega arith) (λ e. omega arith) in
+    let bit : oneIf (v .lockcfg) < 256 = omega (arith, at-most-one (v .lockcfg)) in
     if-one Told (eqb address 0x04) (λ e. more a none) (λ e.
     if-one Told (eqb address 0x05) (λ e. more b none) (λ e.
     if-one Told (eqb address 0x06) (λ e. more c none) (λ e.

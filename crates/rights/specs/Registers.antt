@@ -1,7 +1,7 @@
 -- "Passwords and registers", the registers; and the record rules for the area registers.
 -- Assumes nothing.
 use Prim.Native.Nat.{ℕ}
-use mathlib.Core.Bool.{Bool, not, _&&_, _||_}
+use mathlib.Core.Bool.{Bool, true, false, not, _&&_, _||_}
 use mathlib.Core.List.{List, [], _∷_}
 use lib.Dec.{leb, ltb, eqb}
 use Rattle.put.specs.If.{if_then_else_}
@@ -19,6 +19,11 @@ use Rattle.rights.specs.Vault.{viewOf}
 use Rattle.rights.specs.Verdict.{afterVerdict}
 use Rattle.rights.specs.Passwords.{isOpen}
 
+-- a bit, as a byte
+abbrev pub oneIf : Bool → ℕ
+oneIf true = 1
+oneIf false = 0
+
 -- the seven area registers, in the order of the image's bytes
 abbrev pub registersOf : Areas → List ℕ
 registersOf a = a .rfa1ss ∷ a .enda1 ∷ a .rfa2ss ∷ a .enda2 ∷ a .rfa3ss ∷ a .enda3 ∷ a .rfa4ss ∷ []
@@ -33,7 +38,7 @@ registerAt v address =
     if eqb address 0x08 then read.Value (v .areas .rfa3ss) else
     if eqb address 0x09 then read.Value (v .areas .enda3) else
     if eqb address 0x0A then read.Value (v .areas .rfa4ss) else
-    if eqb address 0x0F then read.Value (if v .lockcfg then 1 else 0) else read.Unknown
+    if eqb address 0x0F then read.Value (oneIf (v .lockcfg)) else read.Unknown
 
 -- the addresses of registers: 04h to 0Ah and 0Fh
 unfoldable pub isRegister : ℕ → Bool

@@ -6,8 +6,8 @@ use super::View;
 use super::passwords::is_open;
 ghost use mathlib.Core.Path.{_≡_};
 ghost use mathlib.Core.Bool.{_&&_};
-ghost use Rattle.put.specs.If.{if_then_else_};
-ghost use Rattle.rights.specs.Registers.{registerAt, isRegister, allows, permits, writtenOf, withRegister, registerWriteOf, writtenVerdict, endRule, pairRule, possible};
+ghost use Prim.Native.Nat.{_≤_};
+ghost use Rattle.rights.specs.Registers.{oneIf, registerAt, isRegister, allows, permits, writtenOf, withRegister, registerWriteOf, writtenVerdict, endRule, pairRule, possible};
 
 pub enum RegisterRead {
     Unknown,
@@ -26,8 +26,9 @@ pub struct RegisterWrite {
     pub vault: Vault,
 }
 
-fn bit(set: bool) -> u8
-    ensures { λ r. ⌜ r ≡ (if set then 1 else 0) ⌝ }
+// A bit, as a byte.
+pub fn one_if(set: bool) -> u8
+    ensures { λ r. ⌜ (r ≡ oneIf set) × (r ≤ 1) ⌝ }
 {
     if set {
         return 1;
@@ -47,7 +48,7 @@ pub fn read_register(v: View, address: u8) -> RegisterRead
         0x08 => RegisterRead::Value(a.rfa3ss),
         0x09 => RegisterRead::Value(a.enda3),
         0x0A => RegisterRead::Value(a.rfa4ss),
-        0x0F => RegisterRead::Value(bit(v.lockcfg)),
+        0x0F => RegisterRead::Value(one_if(v.lockcfg)),
         _ => RegisterRead::Unknown,
     }
 }

@@ -21,7 +21,7 @@ use Rattle.rights.specs.Vault.{viewOf}
 use Rattle.rights.specs.Passwords.{changedOf, changedVerdict}
 use Rattle.rights.specs.Registers.{registersOf, registerAt, writtenOf, writtenVerdict}
 use Rattle.rights.proofs.Cases.{if-one}
-use Rattle.rights.proofs.Ranges.{status-byte, told, read-bytes}
+use Rattle.rights.proofs.Ranges.{status-byte, at-most-one, told, read-bytes}
 use Rattle.record.specs.declared.Front.{Front}
 use Rattle.record.specs.declared.Tag.{Tag}
 use Rattle.record.specs.declared.State.the-variants.{Ready, Quiet, Selected}
@@ -44,7 +44,6 @@ use Rattle.tag.specs.Commands.{frontAfter, unless, registerAnswer, actOf
 use Rattle.tag.specs.Step.{Event, fieldOn, fieldOff, endOfFrame, request, dropped, workHeard, frameOf, roundEnds, frameEnds, workOf, sealed, lineOf, Stepped, settled, step, Ran, run}
 use Rattle.tag.specs.Image.{markOf, lockByte, tagIn, headerOf, imageOf, factory}
 use Rattle.tag.proofs.Lengths.{carried}
-use Rattle.tag.proofs.Locks.{at-most-one}
 use Rattle.tag.proofs.Codes.{Coded, read-coded, status-coded, write-coded, lock-coded, unless-coded, changed-coded, written-coded}
 use Rattle.tag.proofs.Ranges.{roundBytes, heldBytes, RangedFront, Ranged, state-ranged, round-ranged, held-ranged, cleared-ranged, block-in, register-in, afi-in, dsfid-in, block-lock-in, afi-lock-in, dsfid-lock-in, password-in, RangedUnit, RangedUnits, no-unit, unit-and, RangedAct, says-in, lists-in, presents-in, writes-in, closes-in, verdict-bytes, perform-ranged}
 

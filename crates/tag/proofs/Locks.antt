@@ -1,14 +1,15 @@
 -- The image's byte of locks: five bits make it up, and stand in their places in it.
 -- Assumes nothing.
-use Prim.Native.Nat.{ℕ, zero, suc, _+_, _*_, _/_, _%_, _^_, _≤_, _<_}
+use Prim.Native.Nat.{ℕ, zero, suc, _+_, _*_, _/_, _%_, _^_, _<_}
 use native.Mathlib.Nat.{div-div-eq-div-mul}
 use native.Mathlib.Omega.{arith}
 use mathlib.Core.Path.{_≡_, refl, sym, ap, _∙_}
 use mathlib.Core.Bool.{Bool, true, false}
 use lib.Dec.{leb, eqb}
 use borrow.Author.Tests.{leb-true, le-leb}
+use Rattle.rights.specs.Registers.{oneIf}
+use Rattle.rights.proofs.Ranges.{at-most-one}
 use Rattle.tag.specs.Frame.{bit}
-use Rattle.tag.specs.Image.{oneIf}
 
 -- ---- from the byte to its bits
 
@@ -29,10 +30,6 @@ bits-byte n h =
     rw (bit-number 0 n, bit-number 1 n, bit-number 2 n, bit-number 3 n, bit-number 4 n, e, f, g) (omega (arith, leb-true n 0x1F h))
 
 -- ---- from bits to their byte
-
-pub at-most-one : (b : Bool) → oneIf b ≤ 1
-at-most-one true = omega arith
-at-most-one false = omega arith
 
 is-bit : (k n : ℕ) (b : Bool) → n / 2 ^ k % 2 ≡ oneIf b → bit k n ≡ b
 is-bit k n true e = rw e

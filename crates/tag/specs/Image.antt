@@ -9,7 +9,7 @@ use Rattle.put.specs.If.{if_then_else_}
 use Rattle.put.specs.Number.{numberAt, bytesOf}
 use Rattle.rights.specs.declared.Areas.{Areas}
 use Rattle.rights.specs.declared.Session.the-variants as session
-use Rattle.rights.specs.Registers.{registersOf, possible}
+use Rattle.rights.specs.Registers.{oneIf, registersOf, possible}
 use Rattle.record.specs.declared.Tag.{Tag}
 use Rattle.record.specs.declared.State.the-variants.{Ready}
 use Rattle.record.specs.declared.Round.the-variants as round
@@ -66,10 +66,6 @@ headerRule blocks i =
     (markRule i && lockRule i) && (possible (lastEnd blocks) (areasIn i) && reservedRule i)
 
 -- ---- from record to image
-
-abbrev pub oneIf : Bool → ℕ
-oneIf true = 1
-oneIf false = 0
 
 abbrev pub lockByte : Tag → ℕ
 lockByte t =

@@ -18,5 +18,5 @@ read-register-spec =
     (λ c. rw (c .match .keys5))
     (λ c. rw (c .match .keys6))
     (λ c. rw (c .match .keys7))
-    (λ c. rw (c .before .match .keys8, c .bit .ensures))
+    (λ c. rw (c .before .match .keys8, c .one-if .ensures .0))
     (λ c. search proves))
