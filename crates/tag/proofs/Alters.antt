@@ -7,7 +7,8 @@ use mathlib.Core.Path.{_≡_, refl, sym, ap, _∙_}
 use mathlib.Core.Logic.{_≢_}
 use mathlib.Core.Bool.{true}
 use mathlib.Core.List.{List, _++_}
-use lib.ListN.{length, getD, replicate}
+use lib.ListN.{length, take, drop, getD, replicate}
+use lib.Seq.{take-append-seam}
 use borrow.Author.Tests.{le-ltb}
 use Rattle.put.specs.Number.{numberAt, bytesOf}
 use Rattle.crc.specs.Crc.{crcBit, crcBits, crcByte, crcFrom, crcOf, crcBytes}
@@ -65,6 +66,15 @@ pub step-given : (t : Tag) (e : Event) (m x : List ℕ) → isMemory m ≡ true 
 unfolding eventGiven
 step-given t e m x i l s g =
     (rw (i, le-ltb (length x) leastRoom l, s) at (ap (λ (o : Outcome). o .tag) (g .result)), rw (i, le-ltb (length x) leastRoom l, s) at (g .memory))
+
+-- and the length is that of the answer, which stands at the start of the room
+pub answer-given : (t : Tag) (e : Event) (m x : List ℕ) → isMemory m ≡ true → leastRoom ≤ length x → sound (blocksOf m) t ≡ true → {m′ x′ : List ℕ} {r : Outcome} → EventGives t e m x m′ x′ r → take (r .length) x′ ≡ step t m e .answer
+unfolding eventGiven
+answer-given t e m x i l s {m′} {x′} {r} g =
+    let answer = step t m e .answer in
+    let n : r .length ≡ length answer = rw (i, le-ltb (length x) leastRoom l, s) at (ap (λ (o : Outcome). o .length) (g .result)) in
+    let y : x′ ≡ answer ++ drop (length answer) x = rw (i, le-ltb (length x) leastRoom l, s) at (g .room) in
+    rw (n, y, take-append-seam)
 
 module _ (x : List ℕ) (l : leastRoom ≤ length x) {m′ x′ : List ℕ} {r : Outcome} where
   done : (e : Event) → EventGives inField e blank x m′ x′ r → (r .tag ≡ step inField blank e .tag) × (m′ ≡ step inField blank e .memory)
