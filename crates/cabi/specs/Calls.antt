@@ -16,13 +16,13 @@ use Rattle.tag.specs.Image.{headerLength, factory, imageOf}
 use Rattle.tag.specs.Host.{numberOf, isMemory, fitsImage, leastRoom, isImage, eventDone, loadGiven}
 use Rattle.packed.specs.Bytes.{recordIn, isRecord, recordOf}
 
--- "refusal number times 2^32 plus length"
+-- the refusal's number times 2^32, plus the length
 abbrev pub resultOf : Refusal → ℕ → ℕ
 resultOf r n = numberOf r * 0x100000000 + n
 
 -- ---- an event
 
--- "Kinds: 0 on, 1 off, 2 end of frame, 3 request"
+-- the kinds: 0 on, 1 off, 2 end of frame, 3 request
 abbrev pub kindIn : ℕ → Kind
 kindIn k = if eqb k 0 then FieldOn else if eqb k 1 then FieldOff else if eqb k 2 then EndOfFrame else Request
 
@@ -37,7 +37,7 @@ pub record EventLeft : Type 0 where
 abbrev pub eventStays : Refusal → List ℕ → List ℕ → List ℕ → EventLeft
 eventStays n r m x = record { result = resultOf n 0; bytes = r; memory = m; room = x }
 
--- "any other kind is no event: after checks 1 to 3, silence and nothing changed"
+-- "An event checks 1, 2, 3 in that order." Another kind is no event: after the checks, silence and nothing changed
 unfoldable pub eventLeft : ℕ → List ℕ → List ℕ → List ℕ → List ℕ → EventLeft
 eventLeft k frame r m x =
     if not (isMemory m) then eventStays refusal.Memory r m x else
@@ -111,7 +111,7 @@ pub record FactoryLeft : Type 0 where
 abbrev pub made : ℕ → ℕ → ℕ → FactoryLeft
 made size e uid = record { result = 1; bytes = recordOf size (factory e uid) }
 
--- "1 where a record was made, 0 and nothing changed for a size mark other than 1 and 2"
+-- 1 where a record was made; 0, and nothing changed, for a size mark other than 1 and 2
 unfoldable pub factoryLeft : ℕ → ℕ → List ℕ → FactoryLeft
 factoryLeft mark uid r =
     if eqb mark 1 then made 2048 63 uid else

@@ -29,14 +29,14 @@ fn number(r: Refusal) -> u64
     }
 }
 
-// "refusal number times 2^32 plus length", which is 0 where a call is refused
+// The refusal's number times 2^32, plus the length, which is 0 where a call is refused
 fn refused(r: Refusal) -> u64
     ensures { λ n. ⌜ n ≡ resultOf r 0 ⌝ }
 {
     number(r) * 0x1_0000_0000
 }
 
-// "Kinds: 0 on, 1 off, 2 end of frame, 3 request"
+// The kinds: 0 on, 1 off, 2 end of frame, 3 request
 fn kind_in(k: u32) -> Kind
     ensures { λ r. ⌜ r ≡ kindIn k ⌝ }
 {
@@ -52,7 +52,7 @@ fn kind_in(k: u32) -> Kind
     Kind::Request
 }
 
-// An event. "any other kind is no event: after checks 1 to 3, silence and nothing changed"
+// An event. Another kind than 0 to 3 is none: after checks 1 to 3, silence and nothing changed
 #[no_mangle]
 pub extern "C" fn uistermo_event(
     bytes: &mut [u8; RECORD],
@@ -117,7 +117,7 @@ pub extern "C" fn uistermo_save(bytes: &[u8; RECORD], memory: &[u8], image: &mut
     o.length as u64
 }
 
-// "1 where a record was made, 0 and nothing changed for a size mark other than 1 and 2"
+// 1 where a record was made; 0, and nothing changed, for a size mark other than 1 and 2
 #[no_mangle]
 pub extern "C" fn uistermo_factory(mark: u32, uid: u64, bytes: &mut [u8; RECORD]) -> u32
     ensures { λ n. ⌜ FactoryLeaves mark uid (now (bytes .entry)) (now (bytes .exit)) n ⌝ }

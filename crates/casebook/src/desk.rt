@@ -55,7 +55,7 @@ fn least(a: usize, b: usize) -> usize
     if a < b { a } else { b }
 }
 
-// The answer line of a call that gave a result: "refusal number times 2^32 plus length". What it answered stands at the start of room. A
+// The answer line of a call that gave a result, the refusal's number times 2^32 plus the length. What it answered stands at the start of room. A
 // length past the end of room, which no call gives, would show all of it.
 fn say_call(result: u64, tag: &[u8; 72], memory: &[u8], room: &[u8], out: &mut [u8]) -> usize
     requires { ⌜ Suits (length (now room)) (length (now out)) ⌝ }
