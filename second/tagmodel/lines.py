@@ -13,7 +13,7 @@ def is_hex(text):
 
 
 def hex_of(data):
-    """'Hex is written in upper case.'"""
+    """Bytes in upper-case hex."""
     return bytes(data).hex().upper()
 
 

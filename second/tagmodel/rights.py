@@ -17,7 +17,7 @@ AREAS_2_TO_4 = {
 
 
 def area_of(record, block):
-    """'Area i is the lowest i with block at most 8 x ENDAi + 7; Area 4 takes the rest.'"""
+    """'Area i is the lowest i with block at most 8 × ENDAi + 7; Area 4 takes the rest.'"""
     for area in (1, 2, 3):
         if block <= 8 * record.end(area) + 7:
             hit(f"area.{area}")

@@ -51,7 +51,7 @@ class Document003(unittest.TestCase):
         self.assertEqual(borders(tag.record, LARGE), [0x0400])
 
     def test_refused_orders(self):
-        """'Programming ENDA3 to FFh in step 2.a would have resulted in an error'; document 01 makes it 13h."""
+        """'Programming ENDA3 to FFh in step 2.a would have resulted in .. an error'; document 01 makes it 13h."""
         tag = Tag(LARGE, ends=(0x10, 0xFF, 0xFF), session=0)
         self.assertEqual(tag.send("02A10209FF"), error(0x13))
         split = Tag(LARGE, ends=(0x3F, 0x5F, 0xBF), session=0)

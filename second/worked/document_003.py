@@ -32,8 +32,9 @@ def status_of_areas(*counts):
 
 EXAMPLES = (
     Example(
-        "003, 4.2, table 1, page 6", "RF block (00)FFh: bytes 03FFh to 03FCh; last block accessible with read single "
-        "block; RF block 0100h: 0403h to 0400h; 01FF: 07FFh to 07FCh; 07FFh: 1FFFh to 1FFCh",
+        "003, 4.2, table 1, page 6", "RF block (00)FFh .. 03FFh 03FEh 03FDh 03FCh .. 0100h .. 0403h 0402h 0401h 0400h .. "
+        "01FF .. 07FFh 07FEh 07FDh 07FCh .. RF block 07FFh .. 1FFFh 1FFEh 1FFDh 1FFCh .. Last block accessible with read "
+        "single block",
         "byte 4 x block is the first on the air; a one-byte read of two blocks from FFh is cut to one",
         in_field(SMALL) + (
             line("PUT 1020 FC03FD03FE03FF03"), line("PUT 2044 FC07FD07"),
@@ -42,7 +43,7 @@ EXAMPLES = (
             request("0233FF000100", framed("00FC03FD03FE03FF03")), request("0230FF01", framed("00FC07FD07")))
         + in_field(LARGE) + (line("PUT 8188 FC1FFD1F"), request("0230FF07", framed("00FC1FFD1F")))),
     Example(
-        "003, 4.2.1, table 2, page 7", "ST25TV16KC 01FFh 3Fh; ST25TV64KC 07FFh FFh",
+        "003, 4.2.1, table 2, page 7", "ST25TV16KC 01FFh 3Fh ST25TV64KC 07FFh FFh",
         "the last block and the greatest end of each tag, and the next beyond them",
         in_field(SMALL, session=CONFIGURATION_SESSION) + (
             request("0230FF01", framed("0000000000")), request("02300002", NOT_AVAILABLE),
@@ -57,10 +58,11 @@ EXAMPLES = (
             line("PUT 0 " + numbered(0, 10)), request("022300FF", framed("00" + numbered(0, 8))),
             request("022007", framed("00" + numbered(7, 1))), request("022008", error(0x15)))),
     Example(
-        "003, 4.2.1, pages 8 and 9", "1. Initial state: ENDA1 = 10h, Area 1 from block 0000h to 0087h (136 blocks), "
-        "Area 2 from block 0088h to 07FFh (1912 blocks). 2. ENDA1 = 3Fh, ENDA2 = 5Fh, ENDA3 = BFh: 512, 256, 768 and "
-        "512 blocks. 3. ENDA3 = FFh, ENDA2 = FFh, ENDA1 = 7Fh: 1024 and 1024 blocks. Programming ENDA3 to FFh in step "
-        "2.a would have resulted in an error. All passwords: default factory value 0000000000000000 (page 20).",
+        "003, 4.2.1, pages 8 and 9; 5.2.2, page 20", "1. Initial state .. ENDA1 = 10h .. Area 1 from block 0000h to 0087h "
+        "(136 blocks) .. Area 2 from block 0088h to 07FFh (1912 blocks) .. 2. .. Set ENDA1 = 3Fh .. Set ENDA2 = 5Fh .. Set "
+        "ENDA3 = BFh .. (512 blocks) .. (256 blocks) .. (768 blocks) .. (512 blocks) .. 3. .. Set ENDA3 = FFh .. Set ENDA2 "
+        "= FFh .. Set ENDA1 = 7Fh .. (1024 blocks) .. (1024 blocks) .. Programming ENDA3 to FFh in step 2.a would have "
+        "resulted in .. an error .. All passwords are 64-bits long, and default factory passwords value is 000000000000000.",
         "from a factory tag; Areas 1 and 3 are made unwritable, so that 3Ch shows each area's blocks; 003 gives 0Fh "
         "for a refused end, 01 decides: 13h",
         lent(LARGE) + (
@@ -94,13 +96,13 @@ EXAMPLES = (
                 request("02230503", framed("00" + numbered(16, 3) + "00000000")),
                 request("02230903", framed("00" + numbered(16, 3) + "00000000")))),
     Example(
-        "003, 4.3, table 10, page 11", "04h A1SS, 05h ENDA1, 06h A2SS, 07h ENDA2, 08h A3SS, 09h ENDA3, 0Ah A4SS, 0Fh "
-        "LOCK_CFG", "03h (KILL) is not in the base; passwords, AFI and DSFID have no address",
+        "003, 4.3, table 10, page 11", "04h .. A1SS .. 05h .. ENDA1 .. 06h .. A2SS .. 07h .. ENDA2 .. 08h .. A3SS .. "
+        "09h .. ENDA3 .. 0Ah .. A4SS .. 0Fh .. LOCK_CFG", "03h (KILL) is not in the base; passwords, AFI and DSFID have no address",
         in_field(SMALL, ends=(0x11, 0x12, 0x13), protections=(0x04, 0x05, 0x06, 0x07), locks=0x10) + read_registers(
             {0x04: 0x04, 0x05: 0x11, 0x06: 0x05, 0x07: 0x12, 0x08: 0x06, 0x09: 0x13, 0x0A: 0x07, 0x0F: 0x01})),
     Example(
-        "003, tables 5, 7, 9, 14, 16, 18, 20, 24, pages 9 to 17", "Factory value: ENDA1, ENDA2, ENDA3 3Fh (16KC), FFh "
-        "(64KC); A1SS to A4SS and LOCK_CFG 0", "read from factory tags",
+        "003, tables 5, 7, 9, 14, 16, 18, 20, 24, pages 9 to 17", "ENDA1 .. Factory value .. ST25TV16KC: 3Fh .. "
+        "ST25TV64KC: FFh .. ENDA2 .. ENDA3 .. A1SS .. 00b .. A2SS .. A3SS .. A4SS .. LOCK_CFG .. 0b", "read from factory tags",
         in_field(SMALL) + read_registers({0x04: 0, 0x05: 0x3F, 0x06: 0, 0x07: 0x3F, 0x08: 0, 0x09: 0x3F, 0x0A: 0, 0x0F: 0})
         + in_field(LARGE) + read_registers(
             {0x04: 0, 0x05: 0xFF, 0x06: 0, 0x07: 0xFF, 0x08: 0, 0x09: 0xFF, 0x0A: 0, 0x0F: 0})),

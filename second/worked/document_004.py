@@ -29,19 +29,19 @@ def keeps(container):
 
 EXAMPLES = (
     Example(
-        "004, 3.5, pages 6 and 7", "CC File size is 2 blocks (E2 40 00 01 00 00 00 20h); T5T_Area ends at block "
-        "address 65 (41h); User Area1 must end at least at block 65+32=97 (61h); ENDA1 = int(97/8) = 12 (0Ch). Last "
+        "004, 3.5, pages 6 and 7", "CC File size is 2 blocks (E2 40 00 01 00 00 00 20h) .. T5T_Area ends at block "
+        "address 65 (41h) .. User Area1 must end at least at block 65+32=97 (61h) .. ENDA1 = int(97/8) = 12 (0Ch). Last "
         "block of user Area1 is block address 103 (67h)",
         "the 32 blocks after the T5T area (66 to 97) are read; block 104 is hidden; a read over the border is cut, "
         "where 004 says that it fails: 01 decides",
         area_end(SMALL) + area_end(LARGE)),
     Example(
-        "004, 4.1, page 8", "E1 40 40 00h; E1 40 3F 00h", "a container of four bytes is one block",
+        "004, 4.1, page 8", "E1 40 40 00h .. E1 40 3F 00h", "a container of four bytes is one block",
         in_field(SMALL) + tuple(step for container in ("E1404000", "E1403F00") for step in (
             request("022100" + container, DONE), request("022000", framed("00" + container))))),
     Example(
-        "004, 4.2 and 4.3, page 8", "E2 40 00 00 00 00 04 00h; E2 40 00 00 00 00 00 20h; E2 40 00 01 00 00 04 00h; "
-        "E2 40 00 01 00 00 03 FFh; E2 40 00 01 00 00 01 00h; E2 40 00 01 00 00 00 C0h",
+        "004, 4.2 and 4.3, page 8", "E2 40 00 00 00 00 04 00h .. E2 40 00 00 00 00 00 20h .. "
+        "E2 40 00 01 00 00 04 00h .. E2 40 00 01 00 00 03 FFh .. E2 40 00 01 00 00 01 00h .. E2 40 00 01 00 00 00 C0h",
         "a container of eight bytes is two blocks, low byte of the memory first",
         in_field(LARGE) + tuple(step for container in EIGHT_BYTES for step in keeps(container))),
     Example(

@@ -38,7 +38,7 @@ EXAMPLES = (
         + in_field(LARGE) + held_write("4231FF07", "0230FF07") + held_write("423400010000", "02300001")),
     Example(
         "01, Host calls and their numbers",
-        "The longest answer is 2,048 blocks with status: 1 + 2,048 x 5 + 2 = 10,243.",
+        "The longest answer is 2,048 blocks with status",
         "33h with Option_flag on a factory 64 Kbit tag: every block is writable and zero",
         in_field(LARGE) + (request("42330000FF07", framed("00" + "0000000000" * 2048)),)),
 )

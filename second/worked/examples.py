@@ -38,7 +38,7 @@ class Step(NamedTuple):
 
 
 class Example(NamedTuple):
-    """A passage of a document, its words (of a table the rows, of a list the numbers), and how the lines try it."""
+    """A passage of a document, its words (`..` where some are left out), and how the lines try it."""
 
     source: str
     words: str

@@ -37,7 +37,7 @@ pub record EventLeft : Type 0 where
 abbrev pub eventStays : Refusal → List ℕ → List ℕ → List ℕ → EventLeft
 eventStays n r m x = record { result = resultOf n 0; bytes = r; memory = m; room = x }
 
--- "An event checks 1, 2, 3 in that order." Another kind is no event: after the checks, silence and nothing changed
+-- 01: "An event checks 1, 2, 3 in that order." Another kind is no event: after the checks, silence and nothing changed
 unfoldable pub eventLeft : ℕ → List ℕ → List ℕ → List ℕ → List ℕ → EventLeft
 eventLeft k frame r m x =
     if not (isMemory m) then eventStays refusal.Memory r m x else

@@ -1,4 +1,4 @@
--- What a line of the casebook asks for. "A line of no such form answers `?` and changes nothing."
+-- What a line of the casebook asks for. "A line of no such form answers `?` and changes nothing".
 -- Assumes nothing.
 use Prim.Native.Nat.{ℕ, suc, _+_, _-_, _*_, _%_, _≤_}
 use mathlib.Core.Bool.{Bool, _&&_}

@@ -27,7 +27,7 @@ fn fill(s: &mut [u8], value: u8) {
     }
 }
 
-// "lends n bytes of 0 as memory", "lends n bytes of EEh as room"
+// "lends n (0 to 9,000) bytes of 0 as memory", "lends n (0 to 11,000) bytes of EEh as room"
 fn lend(form: Form, lent: Lent, memory: &mut [u8], room: &mut [u8]) -> Lent
     ensures { λ r. ⌜ r ≡ lentBy form lent ⌝ }
 {
@@ -102,7 +102,7 @@ fn save_into(tag: &[u8; 72], memory: &[u8], image: &mut [u8], out: &mut [u8]) ->
     say_call(result, tag, memory, image, out)
 }
 
-// "saves into an image of n bytes of EEh"
+// "saves into an image of n (0 to 8,300) bytes of EEh"
 fn save(n: usize, tag: &[u8; 72], memory: &[u8], out: &mut [u8]) -> usize
     requires { ⌜ (n ≤ 8300) × (22198 ≤ length (now out)) ⌝ }
     ensures { λ r. ⌜ r ≤ length (now (out .exit)) ⌝ }

@@ -80,7 +80,7 @@ fn mask_too_long(frame: &[u8]) -> bool
     60 < mask
 }
 
-// "mask bytes (length over 8, rounded up)"
+// the mask bytes: "length over 8, rounded up"
 fn wrong_length(frame: &[u8]) -> bool
     ensures { λ r. ⌜ r ≡ wrongLength (now (frame .entry)) ⌝ }
 {

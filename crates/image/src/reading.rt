@@ -47,7 +47,7 @@ fn read_keys(image: &[u8]) -> Keys
     }
 }
 
-// "11 locks (bits 0, 1 blocks 0, 1; .. bit 4 LOCK_CFG ..)"
+// byte 11, the locks: "bits 0, 1 blocks 0, 1 .. bit 4 LOCK_CFG"
 fn read_vault(image: &[u8]) -> Vault
     ensures { λ r. ⌜ r ≡ tagIn (now (image .entry)) .vault ⌝ }
 {
@@ -63,7 +63,7 @@ fn read_vault(image: &[u8]) -> Vault
     }
 }
 
-// "1 to 8 UID; 9 AFI; 10 DSFID; 11 locks (.. bit 2 AFI; bit 3 DSFID; ..)"
+// "1 to 8 UID; 9 AFI; 10 DSFID; 11 locks", and of these "bit 2 AFI; bit 3 DSFID"
 fn read_front(image: &[u8]) -> Front
     ensures { λ r. ⌜ r ≡ tagIn (now (image .entry)) .front ⌝ }
 {

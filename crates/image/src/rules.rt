@@ -33,7 +33,7 @@ fn mark_right(image: &[u8]) -> bool
     byte_at(image, 0) == mark(memory_size(image.len()))
 }
 
-// "11 locks (.. others 0)"
+// byte 11, the bits that are no lock: "others 0"
 pub fn locks_right(image: &[u8]) -> bool
     ensures { λ r. ⌜ r ≡ lockRule (now (image .entry)) ⌝ }
 {

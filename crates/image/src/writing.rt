@@ -37,7 +37,7 @@ fn write_identity(uid: u64, size: usize, out: &mut [u8]) -> usize
     9
 }
 
-// bytes 9 to 18: "9 AFI; 10 DSFID; 11 locks ..; 12 to 18 RFA1SS, ENDA1, RFA2SS, ENDA2, RFA3SS, ENDA3, RFA4SS"
+// bytes 9 to 18: "9 AFI; 10 DSFID; 11 locks .. 12 to 18 RFA1SS, ENDA1, RFA2SS, ENDA2, RFA3SS, ENDA3, RFA4SS"
 fn write_bytes(t: Tag, out: &mut [u8]) -> usize
     requires { ⌜ 10 ≤ length (now out) ⌝ }
     ensures { λ r. ⌜ Put (t .front .afi ∷ t .front .dsfid ∷ lockByte t ∷ registersOf (t .vault .areas)) (now (out .entry)) (now (out .exit)) r ⌝ }

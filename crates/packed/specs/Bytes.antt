@@ -1,4 +1,4 @@
--- "The record as 72 bytes", the form in which a host in C keeps a record: "the 64 of an image header .., then at 64 field (0, 1), 65 state
+-- "The record as 72 bytes", the form in which a host in C keeps a record: "the 64 of an image header .. then at 64 field (0, 1), 65 state
 -- (0 Ready, 1 Quiet, 2 Selected), 66 session (0 none, 1 to 4 for passwords 0 to 3), 67 round (0 none, 1 open), 68 its slot, 69 its mask length,
 -- 70 held (0 none, 1 success, 2 error), 71 its code. Bytes without use are 0."
 -- Assumes nothing.

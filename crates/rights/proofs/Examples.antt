@@ -25,7 +25,7 @@ pub record Placed : Type 0 where
 abbrev pub placed : Areas → ℕ → ℕ → Placed
 placed a b i = record { areas = a; block = b; area = i }
 
--- 004, 3.5: "ENDA1 = 12" ends Area 1 with block 103. 003, after Table 3: the three settings of a 64 Kbit tag
+-- 004, 3.5: "ENDA1 = int(97/8) = 12 (0Ch). Last block of user Area1 is block address 103 (67h)". 003, after Table 3: the three settings of a 64 Kbit tag
 pub places : List Placed
 places =
     placed (ends 12 255 255) 103 1

@@ -50,7 +50,7 @@ withSession k s = record { passwords = k .passwords; session = s }
 abbrev pub withPassword : Keys → ℕ → ℕ → Keys
 withPassword k n w = record { passwords = set (k .passwords) n w; session = k .session }
 
--- "Present B3h (..): number over 3 is 10h, sessions unchanged. Wrong value: 0Fh, no session open. Right: that session alone is open."
+-- "Present B3h .. number over 3 is 10h, sessions unchanged. Wrong value: 0Fh, no session open. Right: that session alone is open."
 unfoldable pub presentOf : Keys → ℕ → ℕ → Presentation
 presentOf k n w =
     if ltb 3 n then record { answer = presented.NumberOver; keys = k } else

@@ -44,7 +44,7 @@ fn unless_locked(locked: bool, code: u8) -> Verdict
     Verdict::Success
 }
 
-// "Write AFI 27h: locked 12h."
+// "Write AFI 27h .. locked 12h."
 fn write_afi(t: Tag, hold: bool, value: u8, room: &mut [u8]) -> Said
     requires { ⌜ 4 ≤ length (now room) ⌝ }
     ensures { λ s. ⌜ Does hold t (granted (unless (t .front .lockafi) 0x12) (writes (afi value ∷ []))) (now (room .entry)) (now (room .exit)) s ⌝ }
@@ -54,7 +54,7 @@ fn write_afi(t: Tag, hold: bool, value: u8, room: &mut [u8]) -> Said
     conclude(hold, t, unless_locked(f.lockafi, 0x12), next, room)
 }
 
-// "Lock AFI 28h: locked already 11h."
+// "Lock AFI 28h .. locked already 11h."
 fn lock_afi(t: Tag, hold: bool, room: &mut [u8]) -> Said
     requires { ⌜ 4 ≤ length (now room) ⌝ }
     ensures { λ s. ⌜ Does hold t (granted (unless (t .front .lockafi) 0x11) (writes (afiLock ∷ []))) (now (room .entry)) (now (room .exit)) s ⌝ }
@@ -64,7 +64,7 @@ fn lock_afi(t: Tag, hold: bool, room: &mut [u8]) -> Said
     conclude(hold, t, unless_locked(f.lockafi, 0x11), next, room)
 }
 
-// "Write DSFID 29h: locked 12h."
+// "Write .. DSFID 29h: locked 12h."
 fn write_dsfid(t: Tag, hold: bool, value: u8, room: &mut [u8]) -> Said
     requires { ⌜ 4 ≤ length (now room) ⌝ }
     ensures { λ s. ⌜ Does hold t (granted (unless (t .front .lockdsfid) 0x12) (writes (dsfid value ∷ []))) (now (room .entry)) (now (room .exit)) s ⌝ }
@@ -74,7 +74,7 @@ fn write_dsfid(t: Tag, hold: bool, value: u8, room: &mut [u8]) -> Said
     conclude(hold, t, unless_locked(f.lockdsfid, 0x12), next, room)
 }
 
-// "Lock DSFID 2Ah: locked already 11h."
+// "Lock .. DSFID 2Ah: locked already 11h."
 fn lock_dsfid(t: Tag, hold: bool, room: &mut [u8]) -> Said
     requires { ⌜ 4 ≤ length (now room) ⌝ }
     ensures { λ s. ⌜ Does hold t (granted (unless (t .front .lockdsfid) 0x11) (writes (dsfidLock ∷ []))) (now (room .entry)) (now (room .exit)) s ⌝ }
@@ -198,7 +198,7 @@ fn put_statuses(v: View, limit: usize, first: u16, count: u32, room: &mut [u8]) 
     put_success(n, room)
 }
 
-// "Reads 20h, 30h, 23h and 33h"
+// "Reads 20h .. 30h .. 23h and 33h"
 fn read(
     t: Tag,
     e: Entry,

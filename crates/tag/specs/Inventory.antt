@@ -37,7 +37,7 @@ maskLength f = getD (inventoryFields f) (maskAt f) 0
 unfoldable pub maskTooLong : List ℕ → Bool
 maskTooLong f = ltb (if oneSlot f then 64 else 60) (maskLength f)
 
--- "mask bytes (length over 8, rounded up ..)"; "wrong frame length: silence"
+-- the mask bytes: "length over 8, rounded up"; "wrong frame length: silence"
 unfoldable pub wrongLength : List ℕ → Bool
 wrongLength f = not (eqb (endOf f - 2) (maskAt f + 1 + (maskLength f + 7) / 8))
 
