@@ -6,44 +6,31 @@ use mathlib.Core.Logic.{_⊎_, inl, inr}
 use mathlib.Core.Bool.{Bool, true, false}
 use mathlib.Core.List.{List, [], _∷_, _++_}
 use native.Mathlib.Omega.{arith}
-use lib.ListN.{length, getD, length-append}
-use lib.Dec.{ltb, eqb}
-use borrow.Author.Tests.{ltb-false}
+use lib.ListN.{length, length-append}
+use lib.Dec.{eqb}
 use Rattle.put.proofs.Numbers.{length-bytes}
 use Rattle.crc.specs.Crc.{crcBytes}
 use Rattle.crc.proofs.Bytes.{crc-length}
 use Rattle.rights.specs.declared.View.{View}
 use Rattle.rights.specs.declared.Verdict.{Verdict}
 use Rattle.rights.specs.declared.Verdict.the-variants.{Success, Error}
-use Rattle.rights.specs.declared.registers.RegisterRead.{RegisterRead}
-use Rattle.rights.specs.declared.registers.RegisterRead.the-variants as read
 use Rattle.rights.specs.Vault.{viewOf}
-use Rattle.rights.specs.Passwords.{presentOf, presentedVerdict, changedOf, changedVerdict}
-use Rattle.rights.specs.Registers.{registerAt, writtenOf, writtenVerdict}
+use Rattle.rights.specs.Passwords.{presentOf, presentedVerdict}
 use Rattle.rights.proofs.Cases.{if-one}
 use Rattle.record.specs.declared.Front.{Front}
 use Rattle.record.specs.declared.Tag.{Tag}
-use Rattle.record.specs.declared.Round.{Round}
-use Rattle.record.specs.declared.Round.the-variants as round
-use Rattle.record.specs.declared.Held.{Held}
-use Rattle.record.specs.declared.Held.the-variants as held
 use Rattle.record.specs.Update.{withFront}
 use Rattle.tag.specs.declared.Command.{Command}
-use Rattle.tag.specs.declared.Command.the-variants.{StayQuiet, Read, Write, Lock, Select, ResetToReady, WriteAfi, LockAfi, WriteDsfid, LockDsfid, Status, ReadRegister, WriteRegister, WritePassword, Present, Unlisted}
-use Rattle.tag.specs.declared.Entry.{Entry}
-use Rattle.tag.specs.declared.Heard.{Heard}
-use Rattle.tag.specs.declared.Heard.the-variants as heard
-use Rattle.tag.specs.Rules.{blocksOf, lastEnd}
-use Rattle.tag.specs.Table.{firstOf, moreOf, limitOf}
-use Rattle.tag.specs.Frame.{fieldsFrom, heardOf}
-use Rattle.tag.specs.Work.{Answer, silence, verdict, body, Unit, Act, says, lists, presents, writes, closes, Work, perform}
-use Rattle.tag.specs.Inventory.{oneSlot, maskLength, slotOf, inSlot, unheard, inventoryOf, nextSlot}
-use Rattle.tag.specs.Blocks.{granted, readVerdict, statusVerdict, writeVerdict, lockVerdict}
-use Rattle.tag.specs.Commands.{actOf, registerAnswer, unless, requestOf}
-use Rattle.tag.specs.Step.{Event, fieldOn, fieldOff, endOfFrame, request, dropped, workHeard, frameOf, roundEnds, frameEnds, workOf, sealed, lineOf, settled, step}
+use Rattle.tag.specs.Rules.{blocksOf}
+use Rattle.tag.specs.Work.{Answer, silence, verdict, body, Act, says, lists, presents, writes, closes, Work, perform}
+use Rattle.tag.specs.Inventory.{slotOf, inSlot}
+use Rattle.tag.specs.Commands.{requestOf}
+use Rattle.tag.specs.Step.{Event, dropped, workOf, sealed, lineOf, settled, step}
 use Rattle.tag.specs.Host.{isMemory, leastRoom}
 use Rattle.tag.proofs.Sizes.{memory-bounds}
 use Rattle.tag.proofs.Listing.{listing-within, statuses-within}
+use Rattle.tag.proofs.Came.{Asked, InField, Came, came}
+use Rattle.tag.proofs.Came as shape
 
 -- ---- an answer: what stands in it between the first byte and the CRC
 
@@ -93,90 +80,46 @@ perform-most t m closes = omega arith
 abbrev Fits : Act → Type 0
 Fits a = span a ≤ 10240
 
-granted-fits : (v : Verdict) (a : Act) → Fits a → Fits (granted v a)
-granted-fits Success a h = h
-granted-fits (Error c) a h = omega arith
-
-write-fits : (v : Verdict) (us : List Unit) → Fits (granted v (writes us))
-write-fits v us = granted-fits v (writes us) (omega arith)
-
-register-fits : (r : RegisterRead) → Fits (registerAnswer r)
-register-fits read.Unknown = omega arith
-register-fits (read.Value x) = omega arith
-
-pub limit-within : (e : Entry) (blocks : ℕ) → limitOf e blocks ≤ blocks
-unfolding limitOf
-limit-within e blocks =
-    if-one (λ (n : ℕ). n ≤ blocks) (e .wide) (λ w. omega arith) (λ w.
-    if-one (λ (n : ℕ). n ≤ blocks) (ltb blocks 0x100) (λ h. omega arith) (λ h. ltb-false blocks 0x100 h))
-
-act-fits : (c : Command) (t : Front) (v : View) (blocks : ℕ) (e : Entry) (option : Bool) (fields : List ℕ) → blocks ≤ 2048 → Fits (actOf c t v blocks e option fields)
-unfolding actOf
-act-fits StayQuiet t v blocks e option fields h = omega arith
-act-fits Read t v blocks e option fields h =
-    granted-fits (readVerdict v (limitOf e blocks) (firstOf e fields)) _ (omega (arith, limit-within e blocks))
-act-fits Write t v blocks e option fields h =
-    write-fits (writeVerdict v (limitOf e blocks) (firstOf e fields) (moreOf e fields)) _
-act-fits Lock t v blocks e option fields h = write-fits (lockVerdict v (firstOf e fields)) _
-act-fits Select t v blocks e option fields h = omega arith
-act-fits ResetToReady t v blocks e option fields h = omega arith
-act-fits WriteAfi t v blocks e option fields h = write-fits (unless (t .lockafi) 0x12) _
-act-fits LockAfi t v blocks e option fields h = write-fits (unless (t .lockafi) 0x11) _
-act-fits WriteDsfid t v blocks e option fields h = write-fits (unless (t .lockdsfid) 0x12) _
-act-fits LockDsfid t v blocks e option fields h = write-fits (unless (t .lockdsfid) 0x11) _
-act-fits Status t v blocks e option fields h =
-    granted-fits (statusVerdict (limitOf e blocks) (firstOf e fields)) _
-    (omega (arith, limit-within e blocks, statuses-within v (limitOf e blocks) (firstOf e fields) (moreOf e fields + 1)))
-act-fits ReadRegister t v blocks e option fields h = register-fits (registerAt v (getD fields 0 0))
-act-fits WriteRegister t v blocks e option fields h =
-    write-fits (writtenVerdict (writtenOf (lastEnd blocks) v (getD fields 0 0) (getD fields 1 0))) _
-act-fits WritePassword t v blocks e option fields h = write-fits (changedVerdict (changedOf (v .session) (getD fields 0 0))) _
-act-fits Present t v blocks e option fields h = omega arith
-act-fits Unlisted t v blocks e option fields h = omega arith
+act-fits : {v : View} {blocks : ℕ} {fields : List ℕ} {c : Command} {a : Act} → blocks ≤ 2048 → Asked v blocks fields c a → Fits a
+act-fits h shape.quiet = omega arith
+act-fits h (shape.told d k) = omega (arith, verdict-most d)
+act-fits h (shape.shows address x k) = omega arith
+act-fits h (shape.listed limit first count status k) = omega arith
+act-fits {v} h (shape.states limit first count k) = omega (arith, statuses-within v limit first count)
+act-fits h shape.presented = omega arith
+act-fits h (shape.blocks-written e first n k) = omega arith
+act-fits h (shape.block-locked b) = omega arith
+act-fits h shape.afi-written = omega arith
+act-fits h shape.afi-locked = omega arith
+act-fits h shape.dsfid-written = omega arith
+act-fits h shape.dsfid-locked = omega arith
+act-fits h (shape.register-written address k) = omega arith
+act-fits h (shape.password-written n k) = omega arith
 
 -- ---- an event
-
-abbrev FitsWork : Work → Type 0
-FitsWork w = Fits (w .act)
 
 slot-fits : (t : Front) (slot mask : ℕ) → Fits (says (inSlot t slot mask))
 unfolding inSlot
 slot-fits t slot mask =
     if-one (λ (a : Answer). Fits (says a)) (eqb (slotOf t mask) slot) (λ e. omega (arith, length-bytes 8 (t .uid))) (λ e. omega arith)
 
-inventory-fits : (t : Front) (f : List ℕ) → FitsWork (inventoryOf t f)
-unfolding inventoryOf
-inventory-fits t f =
-    if-one FitsWork (unheard t f) (λ e. omega arith) (λ e.
-    if-one FitsWork (oneSlot f) (λ e. omega (arith, length-bytes 8 (t .uid))) (λ e. slot-fits t 0 (maskLength f)))
-
-next-fits : (t : Front) (slot mask : ℕ) → FitsWork (nextSlot t slot mask)
-unfolding nextSlot
-next-fits t slot mask = if-one FitsWork (ltb slot 15) (λ e. slot-fits t (slot + 1) mask) (λ e. omega arith)
-
-heard-fits : (x : Heard) (t : Front) (v : View) (blocks : ℕ) (f : List ℕ) → blocks ≤ 2048 → FitsWork (workHeard x t v blocks f)
+field-fits : {t : Front} {v : View} {blocks : ℕ} {e : Event} {w : Work} → blocks ≤ 2048 → InField t v blocks e w → Fits (w .act)
 unfolding requestOf
-heard-fits heard.Silence t v blocks f h = omega arith
-heard-fits heard.Deselected t v blocks f h = omega arith
-heard-fits heard.Inventory t v blocks f h = inventory-fits t f
-heard-fits (heard.Error c) t v blocks f h = omega arith
-heard-fits (heard.Request e option start) t v blocks f h = act-fits (e .command) t v blocks e option (fieldsFrom start f) h
+field-fits h shape.unmoved = omega arith
+field-fits h (shape.given d k) = omega (arith, verdict-most d)
+field-fits {t} h (shape.moved slot mask k l) = slot-fits t (slot + 1) mask
+field-fits h shape.closed = omega arith
+field-fits h shape.ignored = omega arith
+field-fits h shape.deselected = omega arith
+field-fits h (shape.refused c k) = omega arith
+field-fits {t} h shape.found = omega (arith, length-bytes 8 (t .uid))
+field-fits {t} h (shape.opened u o) = slot-fits (dropped t) 0 _
+field-fits h (shape.done e option start p a) = act-fits h a
 
-round-fits : (r : Round) (t : Front) → FitsWork (roundEnds r t)
-round-fits round.None t = omega arith
-round-fits (round.Open slot mask) t = next-fits t slot mask
-
-end-fits : (x : Held) (t : Front) → FitsWork (frameEnds x t)
-end-fits held.None t = round-fits (t .round) t
-end-fits (held.Answer v) t = omega (arith, verdict-most v)
-
-work-fits : (t : Front) (v : View) (blocks : ℕ) (e : Event) → blocks ≤ 2048 → FitsWork (workOf t v blocks e)
-unfolding workOf frameOf
-work-fits t v blocks fieldOn h = if-one FitsWork (t .field) (λ e. omega arith) (λ e. omega arith)
-work-fits t v blocks fieldOff h = omega arith
-work-fits t v blocks endOfFrame h = if-one FitsWork (t .field) (λ e. end-fits (t .held) t) (λ e. omega arith)
-work-fits t v blocks (request f) h =
-    if-one FitsWork (t .field) (λ e. heard-fits (heardOf (dropped t) f) (dropped t) v blocks f h) (λ e. omega arith)
+came-fits : {t : Front} {v : View} {blocks : ℕ} {e : Event} {w : Work} → blocks ≤ 2048 → Came t v blocks e w → Fits (w .act)
+came-fits h shape.nothing = omega arith
+came-fits h (shape.cleared on) = omega arith
+came-fits h (shape.inside on i) = field-fits h i
 
 -- the theorem: what is answered fits the least room
 pub answer-most : (t : Tag) (m : List ℕ) (e : Event) → isMemory m ≡ true → length (step t m e .answer) ≤ leastRoom
@@ -184,8 +127,8 @@ unfolding step
 answer-most t m e h =
     let w = workOf (t .front) (viewOf (t .vault)) (blocksOf m) e in
     let d = perform (withFront t (w .front)) m (w .act) in
-    let f : FitsWork w = work-fits (t .front) (viewOf (t .vault)) (blocksOf m) e (omega (arith, memory-bounds (length m) h .1)) in
-    omega (arith, f, perform-most (withFront t (w .front)) m (w .act), settled-most (w .hold) (d .answer) (d .tag) (d .memory))
+    let fits : Fits (w .act) = came-fits (omega (arith, memory-bounds (length m) h .1)) (came (t .front) (viewOf (t .vault)) (blocksOf m) e) in
+    omega (arith, fits, perform-most (withFront t (w .front)) m (w .act), settled-most (w .hold) (d .answer) (d .tag) (d .memory))
 
 -- ---- the CRC
 

@@ -3,6 +3,7 @@ pub mod OnlyOne
 pub mod Sizes
 pub mod Codes
 pub mod Live
+pub mod Came
 pub mod Acts
 pub mod Sound
 pub mod Alters
@@ -17,6 +18,7 @@ pub mod Off
 pub mod Headers
 pub mod Images
 pub mod Alike
+pub mod Presented
 pub mod Harmless
 pub mod Unchanged
 pub mod Unlearned

@@ -1,4 +1,5 @@
--- Laws of `listing` and `statuses`: what each test of a loop that writes them means for what is left to write, and their lengths.
+-- Laws of `listing` and `statuses`: what each test of a loop that writes them means for what is left to write, their lengths, and the limit
+-- that they stop at.
 -- Assumes nothing.
 use Prim.Native.Nat.{ℕ, zero, suc, _+_, _-_, _*_, _≤_, _<_}
 use mathlib.Core.Path.{_≡_, refl}
@@ -9,11 +10,13 @@ use native.Mathlib.Numerals.{sub-one}
 use native.Mathlib.Omega.{arith}
 use lib.ListN.{length, length-append, length-take, length-drop}
 use lib.Dec.{ltb}
-use borrow.Author.Tests.{ltb-true, lt-ltb, le-ltb}
+use borrow.Author.Tests.{ltb-true, ltb-false, lt-ltb, le-ltb}
 use Rattle.put.specs.If.{if_then_else_}
 use Rattle.rights.specs.declared.View.{View}
 use Rattle.rights.specs.Blocks.{readableAt, statusAt}
 use Rattle.rights.proofs.Cases.{if-one, both}
+use Rattle.tag.specs.declared.Entry.{Entry}
+use Rattle.tag.specs.Table.{limitOf}
 use Rattle.tag.specs.Work.{shown, blockShown, listing}
 use Rattle.tag.specs.Blocks.{statuses}
 
@@ -45,7 +48,8 @@ module _ (v : View) (m : List ℕ) (limit b : ℕ) where
   listing-stop (suc n) status (inl h) = rw (le-ltb b limit h)
   listing-stop (suc n) status (inr e) = simp (e, and-false)
 
-  pub listing-more : (n : ℕ) (status : Bool) → 0 < n → b < limit → readableAt v b ≡ true → listing v m limit b n status ≡ blockShown v m b status ++ listing v m limit (b + 1) (n - 1) status
+  pub listing-more : (n : ℕ) (status : Bool) → 0 < n → b < limit → readableAt v b ≡ true
+      → listing v m limit b n status ≡ blockShown v m b status ++ listing v m limit (b + 1) (n - 1) status
   unfolding listing
   listing-more zero status h l e = absurd (omega arith)
   listing-more (suc n) status h l e = rw (lt-ltb b limit l, e, sub-one)
@@ -84,3 +88,12 @@ statuses-within v limit b zero = omega arith
 statuses-within v limit b (suc n) =
     if-one (λ (l : List ℕ). length l ≤ limit - b) (ltb b limit)
     (λ e. omega (arith, ltb-true b limit e, statuses-within v limit (b + 1) n)) (λ e. omega arith)
+
+-- ---- the limit
+
+-- no block below a command's limit is outside the memory
+pub limit-within : (e : Entry) (blocks : ℕ) → limitOf e blocks ≤ blocks
+unfolding limitOf
+limit-within e blocks =
+    if-one (λ (n : ℕ). n ≤ blocks) (e .wide) (λ w. omega arith) (λ w.
+    if-one (λ (n : ℕ). n ≤ blocks) (ltb blocks 0x100) (λ h. omega arith) (λ h. ltb-false blocks 0x100 h))

@@ -1,6 +1,7 @@
 -- "From frame to command": "Checks, first match wins". A check is true where it matches, and so stops the frame. Check 1 is where events are (Step).
 -- Assumes nothing.
 use Prim.Native.Nat.{ℕ, _+_, _-_, _/_, _%_, _^_}
+use mathlib.Core.Path.{_≡_}
 use mathlib.Core.Bool.{Bool, true, false, not, _&&_, _||_}
 use mathlib.Core.List.{List}
 use lib.ListN.{length, getD, take, drop}
@@ -145,6 +146,19 @@ takesNone Holds = false
 unfoldable pub check10 : List ℕ → Bool
 check10 f = optionFlag f && takesNone (entryOf (codeOf f) .option)
 
+-- "a frame that passes all checks": none of 2 to 10 matches
+pub record Passes (t : Front) (f : List ℕ) : Type 0 where
+  pub two : check2 f ≡ false
+  pub three : check3 f ≡ false
+  pub four : check4 f ≡ false
+  pub five : check5 f ≡ false
+  pub six : check6 t f ≡ false
+  pub seven : check7 f ≡ false
+  pub eight : check8 f ≡ false
+  pub nine : check9 f ≡ false
+  pub ten : check10 f ≡ false
+
+-- what a frame is heard as
 unfoldable pub heardOf : Front → List ℕ → Heard
 heardOf t f =
     if check2 f then heard.Silence else

@@ -4,7 +4,7 @@ use Prim.Native.Nat.{_/_}
 use lib.ListN.{length}
 use Rattle.tag.specs.Work.{perform}
 use Rattle.step.proofs.Acts.{shown}
-use Rattle.tag.proofs.Lengths.{limit-within}
+use Rattle.tag.proofs.Listing.{limit-within}
 use borrow.Author.Needs.{needs}
 use native.Mathlib.Omega.{arith}
 use Rattle.step.proofs.commands.read.Statement.{statement}

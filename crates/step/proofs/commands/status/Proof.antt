@@ -2,7 +2,7 @@
 -- Assumes nothing.
 use Rattle.tag.specs.Work.{perform}
 use Rattle.step.proofs.Acts.{shown}
-use Rattle.tag.proofs.Lengths.{limit-within}
+use Rattle.tag.proofs.Listing.{limit-within}
 use borrow.Author.Needs.{needs}
 use native.Mathlib.Omega.{arith}
 use Rattle.step.proofs.commands.status.Statement.{statement}

@@ -8,7 +8,7 @@ use Rattle.tag.proofs.Writes.{write-granted}
 use Rattle.tag.specs.Table.{headOf, dataOf}
 use Rattle.step.proofs.Acts.{blocks-written}
 use Rattle.tag.specs.Work.{perform}
-use Rattle.tag.proofs.Lengths.{limit-within}
+use Rattle.tag.proofs.Listing.{limit-within}
 use borrow.Author.Needs.{needs}
 use native.Mathlib.Omega.{arith}
 use Rattle.step.proofs.commands.write.Statement.{statement}
