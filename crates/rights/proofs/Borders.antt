@@ -1,7 +1,7 @@
 -- Laws of areas: they guard the definition, and crates above go by them, so that nobody there unfolds it.
 -- Assumes nothing.
 use mathlib.Core.Path.{_≡_, refl}
-use mathlib.Core.Bool.{Bool, true, false, not, _&&_}
+use mathlib.Core.Bool.{Bool, true, false, not}
 use Prim.Native.Nat.{ℕ, _+_, _≤_}
 use native.Mathlib.Omega.{arith}
 use lib.Dec.{leb, eqb}
@@ -70,33 +70,39 @@ one-area a first more k e h =
     let q : areaOf a first ≡ areaOf a (first + more) = eqb-true _ _ (not-false _ e) in
     omega (arith, area-rises a first (first + k) (omega arith), area-rises a (first + k) (first + more) (omega arith))
 
--- ---- unless a session of the set is open, what only the set makes readable is neither readable nor writable
+-- ---- what only a set of passwords makes readable
 
-module _ (chosen : ℕ → Bool) (v : View) (shut : (n : ℕ) → chosen n ≡ true → isOpen (v .session) n ≡ false) (b : ℕ) (h : hiddenBy chosen (v .areas) b ≡ true) where
-  abbrev area : ℕ
-  area = areaOf (v .areas) b
+-- a hidden block, by its area's number i and register f
+pub record HiddenIn (chosen : ℕ → Bool) (i f : ℕ) : Type 0 where
+  pub later : eqb i 1 ≡ false
+  pub guarded : 2 ≤ protection f
+  pub names : chosen (named f) ≡ true
 
+pub hidden-in : (chosen : ℕ → Bool) (a : Areas) (b : ℕ) → hiddenBy chosen a b ≡ true → HiddenIn chosen (areaOf a b) (registerOf a (areaOf a b))
+unfolding hiddenBy
+hidden-in chosen a b h =
+    let e = both (not (eqb (areaOf a b) 1)) _ h in
+    let g = both (leb 2 (protection (registerOf a (areaOf a b)))) _ (e .1) in
+    record { later = not-true _ (e .0); guarded = leb-true 2 _ (g .0); names = g .1 }
+
+-- unless a session of the set is open, it is neither readable nor writable
+module _ (chosen : ℕ → Bool) (v : View)
+    (shut : (n : ℕ) → chosen n ≡ true → isOpen (v .session) n ≡ false) (b : ℕ) (h : hiddenBy chosen (v .areas) b ≡ true) where
   abbrev register : ℕ
-  register = registerOf (v .areas) area
+  register = registerOf (v .areas) (areaOf (v .areas) b)
 
-  parts : (not (eqb area 1) ≡ true) × ((leb 2 (protection register) ≡ true) × (chosen (named register) ≡ true))
-  unfolding hiddenBy
-  parts =
-      let e = both (not (eqb area 1)) (leb 2 (protection register) && chosen (named register)) h in
-      (e .0, both _ _ (e .1))
-
-  guarded : 2 ≤ protection register
-  guarded = leb-true 2 (protection register) (parts .1 .0)
+  parts : HiddenIn chosen (areaOf (v .areas) b) register
+  parts = hidden-in chosen (v .areas) b h
 
   unserved : serves (v .session) (named register) ≡ false
   unfolding serves
-  unserved = else-false (eqb (named register) 0) (shut (named register) (parts .1 .1))
+  unserved = else-false (eqb (named register) 0) (shut (named register) (parts .names))
 
   pub hidden-unreadable : readableAt v b ≡ false
   unfolding readableAt mayRead
-  hidden-unreadable = simp (not-true (eqb area 1) (parts .0), le-ltb (protection register) 2 guarded) unserved
+  hidden-unreadable = simp (parts .later, le-ltb (protection register) 2 (parts .guarded)) unserved
 
   pub hidden-unwritable : writableAt v b ≡ false
   unfolding writableAt mayWrite
   hidden-unwritable =
-      simp (ne-eqb (protection register) 0 (λ q. omega (arith, guarded))) (else-false (eqb (protection register) 3) unserved)
+      simp (ne-eqb (protection register) 0 (λ q. omega (arith, parts .guarded))) (else-false (eqb (protection register) 3) unserved)

@@ -1,15 +1,16 @@
 -- "Blocks and areas": which area a block is in, and what its register lets the open session do there.
 -- Assumes nothing.
 use Prim.Native.Nat.{ℕ, zero, suc, _+_, _*_, _/_, _%_}
+use mathlib.Core.Path.{_≡_}
 use mathlib.Core.Bool.{Bool, true, false, not, _&&_, _||_}
 use lib.Dec.{leb, ltb, eqb}
 use Rattle.put.specs.If.{if_then_else_}
 use Rattle.rights.specs.declared.Areas.{Areas}
 use Rattle.rights.specs.declared.Session.{Session}
 use Rattle.rights.specs.declared.View.{View}
-use Rattle.rights.specs.Passwords.{isOpen}
+use Rattle.rights.specs.Passwords.{sessionOf, isOpen}
 
--- 003, 4.2: "Last block address of area = 8 x ENDA_i + 7"
+-- 003, 4.2.1: "Last block address of area = 8 x ENDA_i + 7"
 abbrev pub lastBlock : ℕ → ℕ
 lastBlock e = 8 * e + 7
 
@@ -87,3 +88,20 @@ unfoldable pub hiddenBy : (ℕ → Bool) → Areas → ℕ → Bool
 hiddenBy chosen a b =
     not (eqb (areaOf a b) 1)
     && (leb 2 (protection (registerOf a (areaOf a b))) && chosen (named (registerOf a (areaOf a b))))
+
+-- the same registers and locks, with another session open
+abbrev pub inSession : View → Session → View
+inSession v s = record { areas = v .areas; lock0 = v .lock0; lock1 = v .lock1; lockcfg = v .lockcfg; session = s }
+
+-- block b is readable in the session of password p, and in no session that is not p's. `hiddenBy` says just this of p alone, by the law
+-- hidden-by-one
+pub record OnlyThis (p : ℕ) (v : View) (b : ℕ) : Type 0 where
+  pub opens : readableAt (inSession v (sessionOf p)) b ≡ true
+  pub others : (s : Session) → isOpen s p ≡ false → readableAt (inSession v s) b ≡ false
+
+-- the same of a set of passwords 1 to 3: in the session of one of them, and in no session that is none of theirs; by the law hidden-only
+pub record OnlyThese (chosen : ℕ → Bool) (v : View) (b : ℕ) : Type 0 where
+  pub by : ℕ
+  pub one : chosen by ≡ true
+  pub opens : readableAt (inSession v (sessionOf by)) b ≡ true
+  pub others : (s : Session) → ((n : ℕ) → chosen n ≡ true → isOpen s n ≡ false) → readableAt (inSession v s) b ≡ false

@@ -1,4 +1,4 @@
--- Demand 3: the theorem over runs, for any set of passwords and for each of 1, 2 and 3; and the same of host calls.
+-- Demand 3: the theorem over runs, for any set of passwords and for each of 1, 2 and 3; and the same of a host call and of any number of them.
 -- Assumes nothing.
 use Prim.Native.Nat.{ℕ, _/_}
 use mathlib.Core.Path.{_≡_, refl, ap, subst}
@@ -16,8 +16,8 @@ use Rattle.record.specs.declared.Refusal.the-variants as refusal
 use Rattle.tag.specs.Rules.{blocksOf, sound}
 use Rattle.tag.specs.Step.{Event, step, run}
 use Rattle.tag.specs.Host.{isMemory, leastRoom, EventGiven, eventRefused, eventDone, eventGiven}
-use Rattle.tag.specs.Secrecy.{Shut, presented, opens, unopened, Alike, Secrecy, only, Demand3, SameCall, CallSecrecy}
-use Rattle.tag.proofs.Unchanged.{as-it-was, kept-step, unchanged}
+use Rattle.tag.specs.Secrecy.{Shut, presented, opens, unopened, Alike, Secrecy, only, Demand3, unrefused, SameCall, CallSecrecy, served, unopenedCalls, CallsSecrecy}
+use Rattle.tag.proofs.Unchanged.{as-it-was, kept-after, kept-step, unchanged}
 use Rattle.tag.proofs.Unlearned.{alike-step}
 
 module _ (chosen : ℕ → Bool) where
@@ -62,8 +62,8 @@ module _ (chosen : ℕ → Bool) where
     -- what two calls give is the same, if neither presents a password that guards
     abbrev Same : EventGiven → EventGiven → Type 0
     Same g h =
-        (g .result .refusal ≡ refusal.None → opens chosen (t .vault .keys) (presented t m e) ≡ false)
-        → (h .result .refusal ≡ refusal.None → opens chosen (u .vault .keys) (presented u o e) ≡ false)
+        opens chosen (t .vault .keys) (unrefused (g .result .refusal) (presented t m e)) ≡ false
+        → opens chosen (u .vault .keys) (unrefused (h .result .refusal) (presented u o e)) ≡ false
         → SameCall chosen t u m o (g .result) (h .result) (g .memory) (h .memory) (g .room) (h .room)
 
     refused-same : (r : Refusal) → Same (eventRefused r t m x) (eventRefused r u o x)
@@ -78,14 +78,14 @@ module _ (chosen : ℕ → Bool) where
 
     done-same : Same (eventDone t e m x) (eventDone u e o x)
     done-same p q =
-        let s = alike-step chosen t u m o a shut e (p refl) (q refl) in
+        let s = alike-step chosen t u m o a shut e p q in
         record {
           refusal = refl;
           length = ap length (s .answer);
           room = ap (λ (l : List ℕ). l ++ drop (length l) x) (s .answer);
           alike = s .alike;
-          kept = kept-step chosen t m e shut (p refl);
-          kept′ = kept-step chosen u o e (shut-too t u m o a shut) (q refl);
+          kept = kept-step chosen t m e shut p;
+          kept′ = kept-step chosen u o e (shut-too t u m o a shut) q;
         }
 
     given-same : (memory small rules : Bool) → Same (given memory small rules t e m x) (given memory small rules u e o x)
@@ -113,6 +113,30 @@ module _ (chosen : ℕ → Bool) where
   call-secrecy t u m o e x r s m′ o′ x′ y′ a shut p q g h =
       rw (g .result, g .memory, g .room, h .result, h .memory, h .room)
       (call-same t u m o e x a shut (rw (g .result) at p) (rw (h .result) at q))
+
+  -- ---- host calls in a row
+
+  pub calls-secrecy : CallsSecrecy chosen
+  unfolding served unopenedCalls
+  calls-secrecy t u m o [] a shut p q = record {
+    seen = refl;
+    alike = a;
+    kept = as-it-was chosen (t .vault) m shut;
+    kept′ = as-it-was chosen (u .vault) o (shut-too t u m o a shut);
+  }
+  calls-secrecy t u m o (c ∷ cs) a shut p q =
+      let x = both _ _ p in
+      let y = both _ _ q in
+      let g = eventGiven t (c .event) m (c .room) in
+      let h = eventGiven u (c .event) o (c .room) in
+      let s = call-same t u m o (c .event) (c .room) a shut (not-true _ (x .0)) (not-true _ (y .0)) in
+      let r = calls-secrecy (g .result .tag) (h .result .tag) (g .memory) (h .memory) cs (s .alike) (s .kept .shut) (x .1) (y .1) in
+      record {
+        seen = λ i. record { refusal = s .refusal i; length = s .length i; room = s .room i } ∷ r .seen i;
+        alike = r .alike;
+        kept = kept-after chosen _ _ _ _ _ _ (s .kept) (r .kept);
+        kept′ = kept-after chosen _ _ _ _ _ _ (s .kept′) (r .kept′);
+      }
 
 -- the demand
 pub demand3 : Demand3

@@ -1,24 +1,25 @@
--- The theorem of demand 3 is not empty: a pair of different tags and a list of events that meet its premises; and lists that break them,
--- after which the answers of the pair differ. Frames and expected bytes are literals of the second model.
+-- The theorem of demand 3 is not empty: pairs of different tags and lists of events that meet its premises, and what it says of them. And
+-- each premise is needed: pairs and lists that meet all but one, after which the answers differ. Frames and expected bytes are literals of
+-- the second model.
 -- Assumes nothing.
-use Prim.Native.Nat.{ℕ, zero, suc, _+_}
+use Prim.Native.Nat.{ℕ, zero, suc, _+_, _/_, _≤_, _<_}
 use mathlib.Core.Path.{_≡_, refl, sym, ap, _∙_}
 use mathlib.Core.Logic.{_≢_}
-use mathlib.Core.Bool.{Bool, true, false, _&&_, _||_}
-use mathlib.Core.List.{List, [], _∷_, _++_}
+use mathlib.Core.Bool.{Bool, true, false}
+use mathlib.Core.List.{List, [], _∷_, _++_, map}
 use native.Mathlib.Omega.{arith}
-use lib.ListN.{getD, replicate}
-use lib.Dec.{eqb}
-use borrow.Author.Tests.{eqb-true}
+use lib.ListN.{length, getD, replicate}
 use Rattle.put.specs.Number.{numberAt, bytesOf}
 use Rattle.crc.specs.Crc.{crcBit, crcBits, crcByte, crcFrom, crcOf, crcBytes}
-use Rattle.rights.specs.declared.Session.the-variants.{None}
+use Rattle.rights.specs.declared.Session.{Session}
+use Rattle.rights.specs.declared.Session.the-variants.{None, Configuration, User1}
 use Rattle.rights.specs.Passwords.{sessionOf, isOpen, passwordOf, presentOf, changedOf}
 use Rattle.rights.specs.Blocks.{areaOf, registerOf, serves, mayRead, mayWrite, readableAt, writableAt, lockedAt, barredAt, statusAt, crossesAt, anyBarred, hiddenBy}
-use Rattle.rights.specs.Registers.{registerAt, isRegister, allows, permits, writtenOf, withRegister}
-use Rattle.rights.proofs.Cases.{both}
+use Rattle.rights.specs.Registers.{registerAt, isRegister, allows, permits, writtenOf, withRegister, possible}
 use Rattle.rights.proofs.Hidden.{none-open}
 use Rattle.record.specs.declared.Tag.{Tag}
+use Rattle.record.specs.Update.{withFront, passingCleared}
+use Rattle.tag.specs.Rules.{blocksOf, offRule, roundRule, heldRule, togetherRule, sound}
 use Rattle.tag.specs.Table.{entryOf, firstOf, moreOf, headOf, limitOf, lengthOf}
 use Rattle.tag.specs.Frame.{check2, check3, check4, custom, check5, afterCode, fieldsAt, otherUid, check6, selectOfAnother, check7, check8, check9, check10, heardOf}
 use Rattle.tag.specs.Work.{listing, applyToTag, applyToMemory, perform}
@@ -27,88 +28,86 @@ use Rattle.tag.specs.Blocks.{readVerdict, statuses, statusVerdict, write
 use Rattle.tag.specs.Commands.{actOf, requestOf}
 use Rattle.tag.specs.Step.{Event, fieldOn, fieldOff, endOfFrame, request, frameOf, workOf, step, run}
 use Rattle.tag.specs.Image.{factory}
-use Rattle.tag.specs.Secrecy.{hidden, SameBut, Alike, Shut, presented, unopened, Secret, only}
+use Rattle.tag.specs.Host.{numberOf, eventGiven}
+use Rattle.tag.specs.Secrecy.{SameBut, Alike, Shut, presented, unopened, Secret, only, Call, Seen, served, unopenedCalls, SameServed}
 use Rattle.tag.specs.Cases.{bytes, ours}
-use Rattle.tag.proofs.Secret.{secrecy}
+use Rattle.tag.proofs.Secret.{secrecy, calls-secrecy}
 
--- ---- `SameBut`, by computation
+-- ---- lists that differ in one part
 
-agree : (ℕ → Bool) → List ℕ → List ℕ → Bool
-agree apart [] [] = true
-agree apart [] (y ∷ ys) = false
-agree apart (x ∷ xs) [] = false
-agree apart (x ∷ xs) (y ∷ ys) = (eqb x y || apart 0) && agree (λ i. apart (suc i)) xs ys
-
-first-same : (x y : ℕ) (a : Bool) → (eqb x y || a) ≡ true → a ≡ false → x ≡ y
-first-same x y a h e = go (eqb x y) refl h
+one-place : (apart : ℕ → Bool) (x y : ℕ) (xs ys : List ℕ) → (apart 0 ≡ false → x ≡ y) → SameBut (λ i. apart (suc i)) xs ys → SameBut apart (x ∷ xs) (y ∷ ys)
+one-place apart x y xs ys here s = record { size = ap suc (s .size); at = places }
   where
-    go : (b : Bool) → eqb x y ≡ b → (b || a) ≡ true → x ≡ y
-    go true q h = eqb-true x y q
-    go false q h = let z : _≡_ {A = ℕ} 0 1 = cc in absurd (omega arith)
+    places : (i : ℕ) → apart i ≡ false → getD (x ∷ xs) i 0 ≡ getD (y ∷ ys) i 0
+    places zero e = here e
+    places (suc i) e = s .at i e
 
-agreed : (apart : ℕ → Bool) (xs ys : List ℕ) → agree apart xs ys ≡ true → SameBut apart xs ys
-unfolding agree
-agreed apart [] [] h = record { size = refl; at = λ i e. refl }
-agreed apart [] (y ∷ ys) h = let z : _≡_ {A = ℕ} 0 1 = cc in absurd (omega arith)
-agreed apart (x ∷ xs) [] h = let z : _≡_ {A = ℕ} 0 1 = cc in absurd (omega arith)
-agreed apart (x ∷ xs) (y ∷ ys) h =
-    let b = both (eqb x y || apart 0) (agree (λ i. apart (suc i)) xs ys) h in
-    let rest = agreed (λ i. apart (suc i)) xs ys (b .1) in
-    record { size = ap suc (rest .size); at = places (first-same x y (apart 0) (b .0)) (rest .at) }
-  where
-    places : (apart 0 ≡ false → x ≡ y) → ((i : ℕ) → apart (suc i) ≡ false → getD xs i 0 ≡ getD ys i 0) → (i : ℕ) → apart i ≡ false → getD (x ∷ xs) i 0 ≡ getD (y ∷ ys) i 0
-    places here later zero e = here e
-    places here later (suc i) e = later i e
+one-part : (apart : ℕ → Bool) (c xs ys d : List ℕ) → length xs ≡ length ys → ((i : ℕ) → length c ≤ i → i < length c + length xs → apart i ≡ true)
+    → SameBut apart (c ++ (xs ++ d)) (c ++ (ys ++ d))
+one-part apart (x ∷ c) xs ys d n h =
+    one-place apart x x (c ++ (xs ++ d)) (c ++ (ys ++ d)) (λ e. refl)
+    (one-part (λ i. apart (suc i)) c xs ys d n (λ i k l. h (suc i) (omega arith) (omega arith)))
+one-part apart [] (x ∷ xs) (y ∷ ys) d n h =
+    one-place apart x y (xs ++ d) (ys ++ d) (λ e. let z : _≡_ {A = ℕ} 0 1 = cc (h 0 (omega arith) (omega arith)) in absurd (omega arith))
+    (one-part (λ i. apart (suc i)) [] xs ys d (omega arith) (λ i k l. h (suc i) (omega arith) (omega arith)))
+one-part apart [] [] [] d n h = record { size = refl; at = λ i e. refl }
+one-part apart [] [] (y ∷ ys) d n h = absurd (omega arith)
+one-part apart [] (x ∷ xs) [] d n h = absurd (omega arith)
 
--- ---- the pair
+-- ---- a pair that meets the premises of demand 3, with a list of events, and what its first tag answers
+
+pub record Met (p : ℕ) (t u : Tag) (m o : List ℕ) (es : List Event) (said : List (List ℕ)) : Type 0 where
+  pub sound : sound (blocksOf m) t ≡ true
+  pub alike : Alike (only p) t u m o
+  pub shut : Shut (only p) (t .vault .keys .session)
+  pub met : unopened (only p) t m es ≡ true
+  pub met′ : unopened (only p) u o es ≡ true
+  pub answered : run t m es .answers ≡ said
+  -- they are two
+  pub passwords : passwordOf (t .vault .keys) p ≢ passwordOf (u .vault .keys) p
+  pub memory : m ≢ o
+
+-- the theorem holds of it, so the second tag answers as the first
+pub secret : {p : ℕ} {t u : Tag} {m o : List ℕ} {es : List Event} {said : List (List ℕ)} → Met p t u m o es said → Secret (only p) t u m o es
+secret {p} {t} {u} {m} {o} {es} x = secrecy (only p) t u m o es (x .alike) (x .shut) (x .met) (x .met′)
+
+pub answered-too : {p : ℕ} {t u : Tag} {m o : List ℕ} {es : List Event} {said : List (List ℕ)} → Met p t u m o es said → run u o es .answers ≡ said
+answered-too x = sym (secret x .answers) ∙ x .answered
+
+-- ---- a pair that differs in password 1 and Area 2
 
 -- a 16 Kbit tag. Area 1 is blocks 0 to 7; Area 2, blocks 8 to 15, is read and written in the session of password 1; Area 3, the rest, is
 -- written in that of password 2, whose value is that of the first tag's password 1
-pub tagOf : ℕ → Tag
-tagOf p = record {
+pub tagOf : Session → ℕ → Tag
+tagOf s p = record {
   front = factory 63 ours .front;
   vault = record {
     areas = record { rfa1ss = 0x00; enda1 = 0; rfa2ss = 0x09; enda2 = 1; rfa3ss = 0x06; enda3 = 63; rfa4ss = 0x00 };
     lock0 = false;
     lock1 = false;
     lockcfg = false;
-    keys = record { passwords = 0x0706050403020100 ∷ p ∷ 0x1111111111111111 ∷ 0x3333333333333333 ∷ []; session = None };
+    keys = record { passwords = 0x0706050403020100 ∷ p ∷ 0x1111111111111111 ∷ 0x3333333333333333 ∷ []; session = s };
   };
 }
 
 -- 2,048 bytes, zero but for block 7, and block 8, the first hidden one
+pub lowest : List ℕ
+lowest = replicate 28 0 ++ bytes 4 0x01020304
+
 pub memoryOf : ℕ → List ℕ
-memoryOf b = replicate 28 0 ++ bytes 4 0x01020304 ++ bytes 4 b ++ replicate 2012 0
+memoryOf b = lowest ++ (bytes 4 b ++ replicate 2012 0)
 
 pub first : Tag
-first = tagOf 0x1111111111111111
+first = tagOf None 0x1111111111111111
 
 pub second : Tag
-second = tagOf 0x2222222222222222
+second = tagOf None 0x2222222222222222
 
 pub firstMemory : List ℕ
 firstMemory = memoryOf 0xA1A2A3A4
 
 pub secondMemory : List ℕ
 secondMemory = memoryOf 0xB1B2B3B4
-
-pub alike : Alike (only 1) first second firstMemory secondMemory
-unfolding first second firstMemory secondMemory tagOf memoryOf agree bytes bytesOf hiddenBy areaOf registerOf
-alike = record {
-  front = refl;
-  view = refl;
-  passwords = agreed (only 1) (first .vault .keys .passwords) (second .vault .keys .passwords) refl;
-  memory = agreed (hidden (only 1) (first .vault .areas)) firstMemory secondMemory refl;
-}
-
-pub shut : Shut (only 1) (first .vault .keys .session)
-unfolding first tagOf
-shut = record { closed = λ n g. none-open n }
-
--- they are two: their password 1 and their memory differ
-pub differ : (passwordOf (first .vault .keys) 1 ≢ passwordOf (second .vault .keys) 1) × (firstMemory ≢ secondMemory)
-unfolding first second firstMemory secondMemory tagOf memoryOf bytes bytesOf
-differ = ((λ e. omega arith), (λ e. let z : _≡_ {A = ℕ} 0xA1 0xB1 = ap (λ (m : List ℕ). getD m 32 0) e in omega arith))
 
 -- ---- events that meet the premises, and what the first tag answers
 
@@ -182,59 +181,313 @@ answers =
     ∷ (bytes 12 0x0000F0C8D601042302E064A3)
     ∷ []
 
--- ---- events that break them
+-- ---- the right values with the field off
 
--- password 1 of the first tag is presented, then block 8 is read
-pub opening : List Event
-opening =
-    fieldOn
-    ∷ request (bytes 14 0x02B302011111111111111111E70C)
+-- 01: "Field off: silence, no change." So nothing is presented
+pub unpowered : List Event
+unpowered =
+    request (bytes 14 0x02B302011111111111111111E70C)
+    ∷ request (bytes 14 0x02B3020122222222222222220C88)
+    ∷ fieldOn
     ∷ request (bytes 5 0x0220080FDC)
     ∷ []
+
+-- ---- the right values in calls that are refused
+
+-- a room of 0 bytes is refused by number 2, so nothing is presented either
+pub enough : List ℕ
+enough = replicate 10243 0
+
+pub calls : List Call
+calls =
+    record { event = fieldOn; room = enough }
+    ∷ record { event = request (bytes 14 0x02B302011111111111111111E70C); room = [] }
+    ∷ record { event = request (bytes 14 0x02B3020122222222222222220C88); room = [] }
+    ∷ record { event = request (bytes 5 0x0220080FDC); room = enough }
+    ∷ []
+
+-- number and length of each
+pub told : List Seen → List (List ℕ)
+told = map (λ (s : Seen). numberOf (s .refusal) ∷ s .length ∷ [])
+
+-- ---- a pair that differs in password 3 and Area 4
+
+-- a 64 Kbit tag whose Area 4, blocks 2,040 to 2,047, is read in the session of password 3, and written never
+pub largeOf : ℕ → Tag
+largeOf p = record {
+  front = factory 255 ours .front;
+  vault = record {
+    areas = record { rfa1ss = 0x00; enda1 = 63; rfa2ss = 0x00; enda2 = 127; rfa3ss = 0x00; enda3 = 254; rfa4ss = 0x0F };
+    lock0 = false;
+    lock1 = false;
+    lockcfg = false;
+    keys = record { passwords = 0x0706050403020100 ∷ 0x1111111111111111 ∷ 0x2222222222222222 ∷ p ∷ []; session = None };
+  };
+}
+
+-- 8,192 bytes, zero but for block 2,039, and block 2,047, the last hidden one
+pub largeLowest : List ℕ
+largeLowest = replicate 8156 0 ++ bytes 4 0x01020304 ++ replicate 28 0
+
+pub largeMemoryOf : ℕ → List ℕ
+largeMemoryOf b = largeLowest ++ (bytes 4 b ++ [])
+
+pub third : Tag
+third = largeOf 0x3333333333333333
+
+pub fourth : Tag
+fourth = largeOf 0x4444444444444444
+
+pub thirdMemory : List ℕ
+thirdMemory = largeMemoryOf 0xA1A2A3A4
+
+pub fourthMemory : List ℕ
+fourthMemory = largeMemoryOf 0xB1B2B3B4
+
+-- three blocks from 2,039 on read, block 2,047 read; blocks 2,039 and 2,040 asked for status; block 2,047 written; a wrong value under
+-- the chosen number, and block 2,047 read again
+pub atTheEnd : List Event
+atTheEnd =
+    fieldOn
+    ∷ request (bytes 8 0x0233F70702007BA9)
+    ∷ request (bytes 6 0x0230FF0779C8)
+    ∷ request (bytes 8 0x023CF7070100EFE9)
+    ∷ request (bytes 10 0x0231FF07DEADBEEF6015)
+    ∷ request (bytes 14 0x02B3020355555555555555556796)
+    ∷ request (bytes 6 0x0230FF0779C8)
+    ∷ []
+
+pub answersAtTheEnd : List (List ℕ)
+answersAtTheEnd =
+    []
+    ∷ bytes 7 0x0001020304380A
+    ∷ bytes 4 0x0115B351
+    ∷ bytes 5 0x00000145D7
+    ∷ bytes 4 0x01120C25
+    ∷ bytes 4 0x010F68EE
+    ∷ bytes 4 0x0115B351
+    ∷ []
+
+-- ---- lists that break a premise, for the pair in the field
+
+-- the pair in the field, with a session open
+abbrev inField : Tag → Tag
+inField t = withFront t (passingCleared (t .front) true)
+
+pub firstIn : Session → Tag
+firstIn s = inField (tagOf s 0x1111111111111111)
+
+pub secondIn : Session → Tag
+secondIn s = inField (tagOf s 0x2222222222222222)
+
+-- block 8 is read
+pub reading : List Event
+reading = request (bytes 5 0x0220080FDC) ∷ []
+
+-- the register of Area 2 is written, then block 8 read
+pub writing : List Event
+writing = request (bytes 7 0x02A10206001186) ∷ reading
+
+-- password 1 of the first tag is presented, then block 8 read; and that of the second tag
+pub opening : List Event
+opening = request (bytes 14 0x02B302011111111111111111E70C) ∷ reading
+
+pub openingOther : List Event
+openingOther = request (bytes 14 0x02B3020122222222222222220C88) ∷ reading
 
 -- the configuration password is presented, the register of Area 2 written, then block 8 read
 pub configuring : List Event
-configuring =
-    fieldOn
-    ∷ request (bytes 14 0x02B3020000010203040506073D24)
-    ∷ request (bytes 7 0x02A10206001186)
-    ∷ request (bytes 5 0x0220080FDC)
-    ∷ []
+configuring = request (bytes 14 0x02B3020000010203040506073D24) ∷ writing
+
+-- what they say of block 8; and that a command is done, a value wrong, a block not readable
+pub firstEight : List ℕ
+firstEight = bytes 7 0x00A1A2A3A427AD
+
+pub secondEight : List ℕ
+secondEight = bytes 7 0x00B1B2B3B4036E
+
+pub success : List ℕ
+success = bytes 3 0x0078F0
+
+pub wrong : List ℕ
+wrong = bytes 4 0x010F68EE
+
+pub unreadable : List ℕ
+unreadable = bytes 4 0x0115B351
 
 -- ---- what antt computes of them
 
+-- a sound tag, password p being chosen: whether the events present none of its own that guard, and what it answers
+pub record Plays (p : ℕ) (t : Tag) (m : List ℕ) (es : List Event) (b : Bool) (said : List (List ℕ)) : Type 0 where
+  pub sound : sound (blocksOf m) t ≡ true
+  pub met : unopened (only p) t m es ≡ b
+  pub answers : run t m es .answers ≡ said
+
 pub record Computed : Type 0 where
-  pub met : unopened (only 1) first firstMemory events ≡ true
-  pub met′ : unopened (only 1) second secondMemory events ≡ true
-  pub answered : run first firstMemory events .answers ≡ answers
-  pub opened : unopened (only 1) first firstMemory opening ≡ false
-  pub told : run first firstMemory opening .answers ≡ [] ∷ (bytes 3 0x0078F0) ∷ (bytes 7 0x00A1A2A3A427AD) ∷ []
-  pub told′ : run second secondMemory opening .answers ≡ [] ∷ (bytes 4 0x010F68EE) ∷ (bytes 4 0x0115B351) ∷ []
-  pub configured : unopened (only 1) first firstMemory configuring ≡ false
-  pub read : run first firstMemory configuring .answers ≡ [] ∷ (bytes 3 0x0078F0) ∷ (bytes 3 0x0078F0) ∷ (bytes 7 0x00A1A2A3A427AD) ∷ []
-  pub read′ : run second secondMemory configuring .answers ≡ [] ∷ (bytes 3 0x0078F0) ∷ (bytes 3 0x0078F0) ∷ (bytes 7 0x00B1B2B3B4036E) ∷ []
+  pub small : Plays 1 first firstMemory events true answers
+  pub small′ : unopened (only 1) second secondMemory events ≡ true
+  pub off : Plays 1 first firstMemory unpowered true ([] ∷ [] ∷ [] ∷ unreadable ∷ [])
+  pub off′ : unopened (only 1) second secondMemory unpowered ≡ true
+  pub met : unopenedCalls (only 1) first firstMemory calls ≡ true
+  pub met′ : unopenedCalls (only 1) second secondMemory calls ≡ true
+  pub numbers : told (served first firstMemory calls .seen) ≡ (0 ∷ 0 ∷ []) ∷ (2 ∷ 0 ∷ []) ∷ (2 ∷ 0 ∷ []) ∷ (0 ∷ 4 ∷ []) ∷ []
+  pub large : Plays 3 third thirdMemory atTheEnd true answersAtTheEnd
+  pub large′ : unopened (only 3) fourth fourthMemory atTheEnd ≡ true
+  pub its : Plays 1 (firstIn User1) firstMemory reading true (firstEight ∷ [])
+  pub its′ : Plays 1 (secondIn User1) secondMemory reading true (secondEight ∷ [])
+  pub configuration : Plays 1 (firstIn Configuration) firstMemory writing true (success ∷ firstEight ∷ [])
+  pub configuration′ : Plays 1 (secondIn Configuration) secondMemory writing true (success ∷ secondEight ∷ [])
+  pub opened : Plays 1 (firstIn None) firstMemory opening false (success ∷ firstEight ∷ [])
+  pub opened′ : Plays 1 (secondIn None) secondMemory opening true (wrong ∷ unreadable ∷ [])
+  pub other : Plays 1 (firstIn None) firstMemory openingOther true (wrong ∷ unreadable ∷ [])
+  pub other′ : Plays 1 (secondIn None) secondMemory openingOther false (success ∷ secondEight ∷ [])
+  pub configured : Plays 1 (firstIn None) firstMemory configuring false (success ∷ success ∷ firstEight ∷ [])
+  pub configured′ : Plays 1 (secondIn None) secondMemory configuring false (success ∷ success ∷ secondEight ∷ [])
 
 pub computed : Computed
-unfolding first second firstMemory secondMemory tagOf memoryOf events answers opening configuring presented unopened bytes ours numberAt bytesOf crcBit crcBits crcByte crcFrom crcOf crcBytes sessionOf isOpen presentOf changedOf areaOf registerOf serves mayRead mayWrite readableAt writableAt lockedAt barredAt statusAt crossesAt anyBarred registerAt isRegister allows permits writtenOf withRegister entryOf firstOf moreOf headOf limitOf lengthOf check2 check3 check4 custom check5 afterCode fieldsAt otherUid check6 selectOfAnother check7 check8 check9 check10 heardOf listing applyToTag applyToMemory perform maskTooLong wrongLength afiMatches afiFits maskFits slotOf inSlot unheard inventoryOf nextSlot readVerdict statuses statusVerdict writeVerdict blockUnits lockVerdict actOf requestOf frameOf workOf step run factory
-computed = record { met = refl; met′ = refl; answered = refl; opened = refl; told = refl; told′ = refl; configured = refl; read = refl; read′ = refl }
+unfolding first second firstIn secondIn firstMemory secondMemory tagOf memoryOf lowest events answers unpowered enough calls told eventGiven served unopenedCalls third fourth thirdMemory fourthMemory largeOf largeMemoryOf largeLowest atTheEnd answersAtTheEnd reading writing opening openingOther configuring firstEight secondEight success wrong unreadable sound offRule roundRule heldRule togetherRule possible presented unopened bytes ours numberAt bytesOf crcBit crcBits crcByte crcFrom crcOf crcBytes sessionOf isOpen presentOf changedOf areaOf registerOf serves mayRead mayWrite readableAt writableAt lockedAt barredAt statusAt crossesAt anyBarred registerAt isRegister allows permits writtenOf withRegister entryOf firstOf moreOf headOf limitOf lengthOf check2 check3 check4 custom check5 afterCode fieldsAt otherUid check6 selectOfAnother check7 check8 check9 check10 heardOf listing applyToTag applyToMemory perform maskTooLong wrongLength afiMatches afiFits maskFits slotOf inSlot unheard inventoryOf nextSlot readVerdict statuses statusVerdict writeVerdict blockUnits lockVerdict actOf requestOf frameOf workOf step run factory
+computed =
+    record {
+      small = record { sound = refl; met = refl; answers = refl };
+      small′ = refl;
+      off = record { sound = refl; met = refl; answers = refl };
+      off′ = refl;
+      met = refl;
+      met′ = refl;
+      numbers = refl;
+      large = record { sound = refl; met = refl; answers = refl };
+      large′ = refl;
+      its = record { sound = refl; met = refl; answers = refl };
+      its′ = record { sound = refl; met = refl; answers = refl };
+      configuration = record { sound = refl; met = refl; answers = refl };
+      configuration′ = record { sound = refl; met = refl; answers = refl };
+      opened = record { sound = refl; met = refl; answers = refl };
+      opened′ = record { sound = refl; met = refl; answers = refl };
+      other = record { sound = refl; met = refl; answers = refl };
+      other′ = record { sound = refl; met = refl; answers = refl };
+      configured = record { sound = refl; met = refl; answers = refl };
+      configured′ = record { sound = refl; met = refl; answers = refl };
+    }
 
--- ---- and what follows
+-- ---- they meet the premises, and what follows
 
--- the theorem holds of the pair and the first list, so the second tag answers as the first
-pub secret : Secret (only 1) first second firstMemory secondMemory events
-secret = secrecy (only 1) first second firstMemory secondMemory events alike shut (computed .met) (computed .met′)
+shut-none : (p : ℕ) → Shut (only p) None
+shut-none p = record { closed = λ n g. none-open n }
 
-pub answered-too : run second secondMemory events .answers ≡ answers
-answered-too = sym (secret .answers) ∙ computed .answered
+alike-small : (s : Session) → Alike (only 1) (tagOf s 0x1111111111111111) (tagOf s 0x2222222222222222) firstMemory secondMemory
+unfolding tagOf firstMemory secondMemory memoryOf lowest bytes bytesOf hiddenBy areaOf registerOf
+alike-small s = record {
+  front = refl;
+  view = refl;
+  passwords = one-part (only 1) (_ ∷ []) (_ ∷ []) (_ ∷ []) _ refl (λ i k l. let e : i ≡ 1 = omega arith in rw e);
+  memory = one-part _ lowest (bytes 4 0xA1A2A3A4) (bytes 4 0xB1B2B3B4) _ refl (λ i k l. let e : i / 4 ≡ 8 = omega arith in rw e);
+}
 
--- after the other lists the answers differ: in the first byte of the last, and in its second
+-- of any events that meet the third premise
+small-meets : {es : List Event} {said : List (List ℕ)} → Plays 1 first firstMemory es true said → unopened (only 1) second secondMemory es ≡ true
+    → Met 1 first second firstMemory secondMemory es said
+unfolding first second firstMemory secondMemory tagOf memoryOf lowest bytes bytesOf
+small-meets x met′ = record {
+  sound = x .sound;
+  alike = alike-small None;
+  shut = shut-none 1;
+  met = x .met;
+  met′ = met′;
+  answered = x .answers;
+  passwords = λ e. omega arith;
+  memory = λ e. let z : _≡_ {A = ℕ} 0xA1 0xB1 = ap (λ (m : List ℕ). getD m 32 0) e in omega arith;
+}
+
+pub small-met : Met 1 first second firstMemory secondMemory events answers
+small-met = small-meets (computed .small) (computed .small′)
+
+pub off-met : Met 1 first second firstMemory secondMemory unpowered ([] ∷ [] ∷ [] ∷ unreadable ∷ [])
+off-met = small-meets (computed .off) (computed .off′)
+
+pub calls-met : SameServed (only 1) first second firstMemory secondMemory calls
+unfolding first second tagOf
+calls-met = calls-secrecy (only 1) first second firstMemory secondMemory calls (alike-small None) (shut-none 1) (computed .met) (computed .met′)
+
+pub large-met : Met 3 third fourth thirdMemory fourthMemory atTheEnd answersAtTheEnd
+unfolding third fourth thirdMemory fourthMemory largeOf largeMemoryOf largeLowest bytes bytesOf hiddenBy areaOf registerOf
+large-met = record {
+  sound = computed .large .sound;
+  alike = record {
+    front = refl;
+    view = refl;
+    passwords = one-part (only 3) (_ ∷ _ ∷ _ ∷ []) (_ ∷ []) (_ ∷ []) [] refl (λ i k l. let e : i ≡ 3 = omega arith in rw e);
+    memory = one-part _ largeLowest (bytes 4 0xA1A2A3A4) (bytes 4 0xB1B2B3B4) [] refl (λ i k l. let e : i / 4 ≡ 2047 = omega arith in rw e);
+  };
+  shut = shut-none 3;
+  met = computed .large .met;
+  met′ = computed .large′;
+  answered = computed .large .answers;
+  passwords = λ e. omega arith;
+  memory = λ e. let z : _≡_ {A = ℕ} 0xA1 0xB1 = ap (λ (m : List ℕ). getD m 8188 0) e in omega arith;
+}
+
+-- what each keeps, by the theorem: after those events block 8 of each tag begins as it did, and password 1 is its own
+pub record Still (t u : Tag) (m o : List ℕ) : Type 0 where
+  pub block : getD m 32 0 ≡ 0xA1
+  pub block′ : getD o 32 0 ≡ 0xB1
+  pub password : passwordOf (t .vault .keys) 1 ≡ 0x1111111111111111
+  pub password′ : passwordOf (u .vault .keys) 1 ≡ 0x2222222222222222
+
+pub still : Still
+    (run first firstMemory events .tag) (run second secondMemory events .tag)
+    (run first firstMemory events .memory) (run second secondMemory events .memory)
+unfolding first second tagOf firstMemory secondMemory memoryOf lowest bytes bytesOf hiddenBy areaOf registerOf
+still =
+    let s = secret small-met in
+    record {
+      block = s .kept .memory .at 32 refl;
+      block′ = s .kept′ .memory .at 32 refl;
+      password = s .kept .passwords 1 refl;
+      password′ = s .kept′ .passwords 1 refl;
+    }
+
+-- ---- each premise is needed
+
+-- the two tags with session s open at the start are alike; whether each of them hears none of its own passwords that guard; and their
+-- answers differ
+pub record Broken (s : Session) (es : List Event) (b c : Bool) : Type 0 where
+  pub sound : sound (blocksOf firstMemory) (firstIn s) ≡ true
+  pub alike : Alike (only 1) (firstIn s) (secondIn s) firstMemory secondMemory
+  pub met : unopened (only 1) (firstIn s) firstMemory es ≡ b
+  pub met′ : unopened (only 1) (secondIn s) secondMemory es ≡ c
+  pub differ : run (firstIn s) firstMemory es .answers ≢ run (secondIn s) secondMemory es .answers
+
+-- byte j of answer i
 byte : ℕ → ℕ → List (List ℕ) → ℕ
 byte i j said = getD (getD said i []) j 0
 
-pub opening-differs : run first firstMemory opening .answers ≢ run second secondMemory opening .answers
-unfolding byte bytes bytesOf
-opening-differs e = let z : _≡_ {A = ℕ} 0x00 0x01 = ap (byte 2 0) (sym (computed .told) ∙ e ∙ computed .told′) in omega arith
+broken : {s : Session} {es : List Event} {b c : Bool} {x y : List (List ℕ)} (i j : ℕ) → byte i j x ≢ byte i j y
+    → Plays 1 (firstIn s) firstMemory es b x → Plays 1 (secondIn s) secondMemory es c y → Broken s es b c
+unfolding firstIn secondIn tagOf
+broken {s} i j d p q = record {
+  sound = p .sound;
+  alike = record { front = refl; view = refl; passwords = alike-small s .passwords; memory = alike-small s .memory };
+  met = p .met;
+  met′ = q .met;
+  differ = λ e. d (ap (byte i j) (sym (p .answers) ∙ e ∙ q .answers));
+}
 
-pub configuring-differs : run first firstMemory configuring .answers ≢ run second secondMemory configuring .answers
-unfolding byte bytes bytesOf
-configuring-differs e = let z : _≡_ {A = ℕ} 0xA1 0xB1 = ap (byte 3 1) (sym (computed .read) ∙ e ∙ computed .read′) in omega arith
+pub record EachNeeded : Type 0 where
+  -- "In neither is its session or the configuration session open": its own is; the configuration session is
+  pub its-session : Broken User1 reading true true
+  pub configuration-session : Broken Configuration writing true true
+  -- "neither tag's chosen password .. is presented": the first tag's is; the second tag's is
+  pub first-presented : Broken None opening false true
+  pub other-presented : Broken None openingOther true false
+  -- "nor its configuration password": it is one and the same in both
+  pub configuration-presented : Broken None configuring false false
+
+pub each-needed : EachNeeded
+unfolding byte bytes bytesOf firstEight secondEight success wrong unreadable
+each-needed = record {
+  its-session = broken 0 1 (λ e. omega arith) (computed .its) (computed .its′);
+  configuration-session = broken 1 1 (λ e. omega arith) (computed .configuration) (computed .configuration′);
+  first-presented = broken 1 0 (λ e. omega arith) (computed .opened) (computed .opened′);
+  other-presented = broken 1 0 (λ e. omega arith) (computed .other) (computed .other′);
+  configuration-presented = broken 2 1 (λ e. omega arith) (computed .configured) (computed .configured′);
+}

@@ -33,7 +33,7 @@ module _ (chosen : ℕ → Bool) where
   pub as-it-was : (v : Vault) (m : List ℕ) → Shut chosen (v .keys .session) → Kept chosen v m v m
   as-it-was v m shut = record { passwords = λ n g. refl; memory = record { size = refl; at = λ i e. refl }; areas = refl; shut = shut }
 
-  kept-after : (v v′ v″ : Vault) (m m′ m″ : List ℕ) → Kept chosen v m v′ m′ → Kept chosen v′ m′ v″ m″ → Kept chosen v m v″ m″
+  pub kept-after : (v v′ v″ : Vault) (m m′ m″ : List ℕ) → Kept chosen v m v′ m′ → Kept chosen v′ m′ v″ m″ → Kept chosen v m v″ m″
   kept-after v v′ v″ m m′ m″ h k = record {
     passwords = λ n g. k .passwords n g ∙ h .passwords n g;
     memory = record { size = cc; at = λ i e. k .memory .at i (rw (h .areas) e) ∙ h .memory .at i e };

@@ -1,7 +1,9 @@
--- Demand 3: "Secrecy: two tags alike except in one password (1 to 3) and the bytes that only it makes readable give the same bytes and
--- silences to any events that do not present that password or the configuration password; and those passwords and bytes stay."
+-- Demand 3: "Take two tags alike except in password 1, 2 or 3, whichever is chosen, and in bytes of Areas 2 to 4 that only that password
+-- makes readable. In neither is its session or the configuration session open. Feed both the same events, of any number, in which neither
+-- tag's chosen password nor its configuration password is presented under its number. By the definition of demand 2, both give the same
+-- bytes and the same silences. They still differ only there, and those passwords and bytes are unchanged."
 -- Stated for a set of chosen passwords; the demand is the set of 1 alone, of 2 alone and of 3 alone. A tag is its record, t or u, with its
--- memory, m or o.
+-- memory, m or o. The sections below take the demand's words in turn; where 01 is quoted, it is named.
 -- Assumes nothing.
 use Prim.Native.Nat.{ℕ, _/_}
 use mathlib.Core.Path.{_≡_}
@@ -10,6 +12,8 @@ use mathlib.Core.List.{List, [], _∷_}
 use mathlib.Core.Option.{Option, none, some}
 use lib.ListN.{length, getD}
 use lib.Dec.{eqb}
+use Rattle.put.specs.If.{if_then_else_}
+use Rattle.put.specs.Number.{numberAt}
 use Rattle.rights.specs.declared.Areas.{Areas}
 use Rattle.rights.specs.declared.Keys.{Keys}
 use Rattle.rights.specs.declared.Session.{Session}
@@ -18,21 +22,23 @@ use Rattle.rights.specs.Vault.{viewOf}
 use Rattle.rights.specs.Passwords.{isOpen, passwordOf}
 use Rattle.rights.specs.Blocks.{hiddenBy}
 use Rattle.record.specs.declared.Tag.{Tag}
-use Rattle.record.specs.declared.Refusal.the-variants as refusal
+use Rattle.record.specs.declared.Refusal.{Refusal}
 use Rattle.record.specs.declared.Outcome.{Outcome}
 use Rattle.tag.specs.Rules.{blocksOf}
+use Rattle.tag.specs.Frame.{codeOf, fieldsAt, fieldsFrom, Passes}
 use Rattle.tag.specs.Work.{Act, says, lists, presents, writes, closes}
-use Rattle.tag.specs.Step.{Event, workOf, step, run}
-use Rattle.tag.specs.Host.{EventGives}
+use Rattle.tag.specs.Step.{Event, request, workOf, step, run}
+use Rattle.tag.specs.Host.{numberOf, EventGiven, eventGiven, EventGives}
 
--- ---- "the bytes that only it makes readable"
+-- ---- "bytes of Areas 2 to 4 that only that password makes readable"
 
 -- byte i of the memory, which is in block i / 4. `hiddenBy`, of rights, says of a block that it is in Areas 2 to 4, that its register has
--- protection 10 or 11, and that the register's password bits name a chosen password
+-- protection 10 or 11, and that the register's password bits name a chosen password: by the laws hidden-by-one and hidden-only, of rights,
+-- that it is readable in the session of a chosen password and in no session that is none of theirs
 abbrev pub hidden : (ℕ → Bool) → Areas → ℕ → Bool
 hidden chosen a i = hiddenBy chosen a (i / 4)
 
--- ---- "two tags alike except in one password and the bytes that only it makes readable"
+-- ---- "two tags alike except in password 1, 2 or 3, whichever is chosen, and in bytes .."
 
 -- two lists as long as each other, which differ at most where `apart` is true
 pub record SameBut (apart : ℕ → Bool) (xs ys : List ℕ) : Type 0 where
@@ -46,15 +52,17 @@ pub record Alike (chosen : ℕ → Bool) (t u : Tag) (m o : List ℕ) : Type 0 w
   pub passwords : SameBut chosen (t .vault .keys .passwords) (u .vault .keys .passwords)
   pub memory : SameBut (hidden chosen (t .vault .areas)) m o
 
--- ---- "events that do not present that password or the configuration password"
+-- ---- "In neither is its session or the configuration session open."
 
 -- the passwords that guard: the chosen ones, and number 0, the configuration password
 abbrev pub guards : (ℕ → Bool) → ℕ → Bool
 guards chosen n = chosen n || eqb n 0
 
--- no session of these is open
+-- the session of none of them is open. Alike tags have one session, so what is said of one is said of both
 pub record Shut (chosen : ℕ → Bool) (s : Session) : Type 0 where
   pub closed : (n : ℕ) → guards chosen n ≡ true → isOpen s n ≡ false
+
+-- ---- "neither tag's chosen password nor its configuration password is presented under its number"
 
 -- what is presented: a value, as the password of a number
 pub record Claim : Type 0 where
@@ -68,9 +76,15 @@ claimOf (presents n w) = some (record { number = n; value = w })
 claimOf (writes us) = none
 claimOf closes = none
 
--- "presented means in a frame that passes all checks": an event presents to a tag what the tag's step on that event goes by
+-- an event presents to a tag what the tag's step on that event goes by
 unfoldable pub presented : Tag → List ℕ → Event → Option Claim
 presented t m e = claimOf (workOf (t .front) (viewOf (t .vault)) (blocksOf m) e .act)
+
+-- 01: "Present B3h (number, 8 bytes; presented means in a frame that passes all checks)": in the field, number and value of the fields of such a
+-- frame. By the law presented-means, `presented` finds just this
+pub data PresentedBy (t : Tag) : Event → Claim → Type 0 where
+  in-frame : {f : List ℕ} → t .front .field ≡ true → codeOf f ≡ 0xB3 → Passes (t .front) f
+      → PresentedBy t (request f) (record { number = getD (fieldsFrom (fieldsAt f) f) 0 0; value = numberAt 8 (fieldsFrom (fieldsAt f) f) 1 })
 
 -- what is presented is the tag's password of that number, and one of those that guard
 abbrev pub opens : (ℕ → Bool) → Keys → Option Claim → Bool
@@ -85,7 +99,7 @@ unopened chosen t m (e ∷ es) =
     let s = step t m e in
     not (opens chosen (t .vault .keys) (presented t m e)) && unopened chosen (s .tag) (s .memory) es
 
--- ---- "and those passwords and bytes stay", of one tag: from the vault v and memory m to v′ and m′
+-- ---- "those passwords and bytes are unchanged", of one tag: from the vault v and memory m to v′ and m′
 
 -- the registers stay too, so that the hidden bytes are the same ones; and the sessions are still shut
 pub record Kept (chosen : ℕ → Bool) (v : Vault) (m : List ℕ) (v′ : Vault) (m′ : List ℕ) : Type 0 where
@@ -101,16 +115,16 @@ Unchanged chosen =
     → unopened chosen t m es ≡ true
     → Kept chosen (t .vault) m (run t m es .tag .vault) (run t m es .memory)
 
--- ---- "give the same bytes and silences", and with it the whole demand
+-- ---- "By the definition of demand 2, both give the same bytes and the same silences. They still differ only there": the whole demand
 
--- the answers are a list with one for each event, silence being no bytes
+-- the answers are a list with one for each event, silence being no bytes; "still differ only there" is `Alike` again
 pub record Secret (chosen : ℕ → Bool) (t u : Tag) (m o : List ℕ) (es : List Event) : Type 0 where
   pub answers : run t m es .answers ≡ run u o es .answers
   pub alike : Alike chosen (run t m es .tag) (run u o es .tag) (run t m es .memory) (run u o es .memory)
   pub kept : Kept chosen (t .vault) m (run t m es .tag .vault) (run t m es .memory)
   pub kept′ : Kept chosen (u .vault) o (run u o es .tag .vault) (run u o es .memory)
 
--- each tag by itself hears none of its own passwords that guard; and their session is one, so that it is shut in both
+-- "the same events, of any number": each tag by itself hears none of its own passwords that guard
 abbrev pub Secrecy : (ℕ → Bool) → Type 0
 Secrecy chosen =
     (t u : Tag) (m o : List ℕ) (es : List Event)
@@ -120,7 +134,7 @@ Secrecy chosen =
     → unopened chosen u o es ≡ true
     → Secret chosen t u m o es
 
--- "one password (1 to 3)"
+-- "password 1, 2 or 3, whichever is chosen"
 abbrev pub only : ℕ → ℕ → Bool
 only p n = eqb n p
 
@@ -128,6 +142,10 @@ abbrev pub Demand3 : Type 0
 Demand3 = Secrecy (only 1) × Secrecy (only 2) × Secrecy (only 3)
 
 -- ---- the same of host calls, whatever is lent
+
+-- a call that is refused presents nothing
+abbrev pub unrefused : Refusal → Option Claim → Option Claim
+unrefused r c = if eqb (numberOf r) 0 then c else none
 
 -- after a call on each tag: number, length and every byte of the room
 pub record SameCall (chosen : ℕ → Bool) (t u : Tag) (m o : List ℕ) (r s : Outcome) (m′ o′ x′ y′ : List ℕ) : Type 0 where
@@ -138,15 +156,66 @@ pub record SameCall (chosen : ℕ → Bool) (t u : Tag) (m o : List ℕ) (r s : 
   pub kept : Kept chosen (t .vault) m (r .tag .vault) m′
   pub kept′ : Kept chosen (u .vault) o (s .tag .vault) o′
 
--- for any record, memory and room: a call on each tag with the same event, and the same room x at entry. A call that is refused presents
--- nothing
+-- for any record, memory and room: a call on each tag with the same event, and the same room x at entry
 abbrev pub CallSecrecy : (ℕ → Bool) → Type 0
 CallSecrecy chosen =
     (t u : Tag) (m o : List ℕ) (e : Event) (x : List ℕ) (r s : Outcome) (m′ o′ x′ y′ : List ℕ)
     → Alike chosen t u m o
     → Shut chosen (t .vault .keys .session)
-    → (r .refusal ≡ refusal.None → opens chosen (t .vault .keys) (presented t m e) ≡ false)
-    → (s .refusal ≡ refusal.None → opens chosen (u .vault .keys) (presented u o e) ≡ false)
+    → opens chosen (t .vault .keys) (unrefused (r .refusal) (presented t m e)) ≡ false
+    → opens chosen (u .vault .keys) (unrefused (s .refusal) (presented u o e)) ≡ false
     → EventGives t e m x m′ x′ r
     → EventGives u e o x o′ y′ s
     → SameCall chosen t u m o r s m′ o′ x′ y′
+
+-- ---- and of any number of them, refused ones among them
+
+-- a call: its event, and the room that is lent to it
+pub record Call : Type 0 where
+  pub event : Event
+  pub room : List ℕ
+
+-- what the caller sees after it: number, length and every byte of the room
+pub record Seen : Type 0 where
+  pub refusal : Refusal
+  pub length : ℕ
+  pub room : List ℕ
+
+abbrev pub seenOf : EventGiven → Seen
+seenOf g = record { refusal = g .result .refusal; length = g .result .length; room = g .room }
+
+-- calls in a row, each on the record and the memory that the one before it left
+pub record Served : Type 0 where
+  pub seen : List Seen
+  pub tag : Tag
+  pub memory : List ℕ
+
+unfoldable pub served : Tag → List ℕ → List Call → Served
+served t m [] = record { seen = []; tag = t; memory = m }
+served t m (c ∷ cs) =
+    let g = eventGiven t (c .event) m (c .room) in
+    let r = served (g .result .tag) (g .memory) cs in
+    record { seen = seenOf g ∷ r .seen; tag = r .tag; memory = r .memory }
+
+-- no call of a list presents a password that guards
+unfoldable pub unopenedCalls : (ℕ → Bool) → Tag → List ℕ → List Call → Bool
+unopenedCalls chosen t m [] = true
+unopenedCalls chosen t m (c ∷ cs) =
+    let g = eventGiven t (c .event) m (c .room) in
+    not (opens chosen (t .vault .keys) (unrefused (g .result .refusal) (presented t m (c .event))))
+    && unopenedCalls chosen (g .result .tag) (g .memory) cs
+
+pub record SameServed (chosen : ℕ → Bool) (t u : Tag) (m o : List ℕ) (cs : List Call) : Type 0 where
+  pub seen : served t m cs .seen ≡ served u o cs .seen
+  pub alike : Alike chosen (served t m cs .tag) (served u o cs .tag) (served t m cs .memory) (served u o cs .memory)
+  pub kept : Kept chosen (t .vault) m (served t m cs .tag .vault) (served t m cs .memory)
+  pub kept′ : Kept chosen (u .vault) o (served u o cs .tag .vault) (served u o cs .memory)
+
+abbrev pub CallsSecrecy : (ℕ → Bool) → Type 0
+CallsSecrecy chosen =
+    (t u : Tag) (m o : List ℕ) (cs : List Call)
+    → Alike chosen t u m o
+    → Shut chosen (t .vault .keys .session)
+    → unopenedCalls chosen t m cs ≡ true
+    → unopenedCalls chosen u o cs ≡ true
+    → SameServed chosen t u m o cs
