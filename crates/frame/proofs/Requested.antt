@@ -37,11 +37,6 @@ same-request f {d} {e} {p} {o} {n} {m} h r =
     let c : n ≡ m = cc in
     rw (← a, ← b, ← c) r
 
--- check 7: the code is listed
-listed-by : (f : List ℕ) → check7 f ≡ false → unlisted (entryOf (codeOf f) .command) ≡ false
-unfolding check7
-listed-by f e = e
-
 -- check 8, of fields that lie within the frame
 sized-by : (f : List ℕ) → fieldsAt f ≤ endOf f → check8 f ≡ false
     → length (fieldsFrom (fieldsAt f) f) ≡ lengthOf (entryOf (codeOf f)) (fieldsFrom (fieldsAt f) f)
@@ -60,6 +55,7 @@ least-place f =
 module _ (t : Front) (f : List ℕ) where
   -- nothing but a frame that passes all checks is heard so
   heard-as : {x : Heard} {e : Entry} {o : Bool} {start : ℕ} → Hears t f x → x ≡ Request e o start → Requested f e o start
+  unfolding check7
   heard-as shape.silent h = let z : _≡_ {A = ℕ} 0 1 = cc in absurd (omega arith)
   heard-as shape.another h = let z : _≡_ {A = ℕ} 0 1 = cc in absurd (omega arith)
   heard-as shape.inventory h = let z : _≡_ {A = ℕ} 0 1 = cc in absurd (omega arith)
@@ -74,7 +70,7 @@ module _ (t : Front) (f : List ℕ) where
         long = long;
         least = least-place f;
         most = most;
-        listed = listed-by f (p .seven);
+        listed = p .seven;
         sized = sized-by f most (p .eight);
       })
 

@@ -101,7 +101,7 @@ module _ (chosen : ℕ → Bool) (v : View) (b : ℕ) where
       let is : name ≡ o .by = open-is (o .by) name (s .1) in
       join (s .0 .0) (join (s .0 .1) (rw is (o .one)))
 
-  -- "that only that password makes readable", of a set of passwords 1 to 3
+  -- demand 3: "that only that password makes readable", of a set of passwords 1 to 3
   pub hidden-only : chosen 0 ≡ false
       → (hiddenBy chosen (v .areas) b ≡ true → OnlyThese chosen v b) × (OnlyThese chosen v b → hiddenBy chosen (v .areas) b ≡ true)
   hidden-only zeroth = (only-these zeroth, these-only)

@@ -93,8 +93,8 @@ hiddenBy chosen a b =
 abbrev pub inSession : View → Session → View
 inSession v s = record { areas = v .areas; lock0 = v .lock0; lock1 = v .lock1; lockcfg = v .lockcfg; session = s }
 
--- block b is readable in the session of password p, and in no session that is not p's. `hiddenBy` says just this of p alone, by the law
--- hidden-by-one
+-- block b is readable in the session of password p, and in no session that is not p's. Of one password p, 1 to 3, `hiddenBy` says just this, by
+-- the law hidden-by-one
 pub record OnlyThis (p : ℕ) (v : View) (b : ℕ) : Type 0 where
   pub opens : readableAt (inSession v (sessionOf p)) b ≡ true
   pub others : (s : Session) → isOpen s p ≡ false → readableAt (inSession v s) b ≡ false

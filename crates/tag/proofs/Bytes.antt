@@ -24,8 +24,8 @@ use Rattle.record.specs.declared.State.the-variants.{Ready}
 use Rattle.record.specs.declared.Round.the-variants as round
 use Rattle.record.specs.declared.Held.the-variants as held
 use Rattle.tag.specs.Rules.{blocksOf, heldRule}
-use Rattle.tag.specs.Table.{headOf}
-use Rattle.tag.specs.Frame.{fieldsFrom, endOf}
+use Rattle.tag.specs.Table.{entryOf, headOf}
+use Rattle.tag.specs.Frame.{codeOf, fieldsAt, fieldsFrom, endOf}
 use Rattle.tag.specs.Work.{Answer, silence, verdict, body, Act, says, Work}
 use Rattle.tag.specs.Inventory.{maskAt, maskLength, slotOf, inSlot}
 use Rattle.tag.specs.Blocks.{statuses, blockUnits}
@@ -119,9 +119,9 @@ field-ranged r g p shape.found = record { front = dropped-ranged r; act = says-i
 field-ranged r g p (shape.opened {f} u o) =
     let first = more zero-byte (more (byte-at (maskAt f) (fields-bytes 2 p)) none) in
     record { front = round-ranged (dropped-ranged r) (round.Open 0 (maskLength f)) first; act = slot-ranged 0 (maskLength f) (dropped-ranged r) }
-field-ranged r g p (shape.done e option start h a) =
-    let front = front-by RangedFront (dropped-ranged r) (state-ranged (dropped-ranged r)) (e .command) in
-    record { front = front; act = act-ranged g (fields-bytes start p) a }
+field-ranged r g p (shape.done {f} h a) =
+    let front = front-by RangedFront (dropped-ranged r) (state-ranged (dropped-ranged r)) (entryOf (codeOf f) .command) in
+    record { front = front; act = act-ranged g (fields-bytes (fieldsAt f) p) a }
 
 came-ranged : {t : Front} {v : View} {blocks : ℕ} {e : Event} {w : Work}
     → RangedFront t → Bytes (registersOf (v .areas)) → Bytes (sent e) → Came t v blocks e w → RangedWork w

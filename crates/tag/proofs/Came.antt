@@ -74,22 +74,23 @@ hears t f =
 -- ---- a command, on a tag of so many blocks, with such fields
 
 pub data Asked (v : View) (blocks : ℕ) (fields : List ℕ) : Command → Act → Type 0 where
-  quiet : Asked v blocks fields StayQuiet (says silence)
+  quiet : {c : Command} → Asked v blocks fields c (says silence)
   told : {c : Command} (d : Verdict) → Coded d → Asked v blocks fields c (says (verdict d))
-  shows : (address x : ℕ) → registerAt v address ≡ read.Value x → Asked v blocks fields ReadRegister (says (body (x ∷ [])))
-  listed : (limit first count : ℕ) (status : Bool) → limit ≤ blocks → Asked v blocks fields Read (lists limit first count status)
-  states : (limit first count : ℕ) → limit ≤ blocks → Asked v blocks fields Status (says (body (statuses v limit first count)))
+  shows : {c : Command} (address x : ℕ) → registerAt v address ≡ read.Value x → Asked v blocks fields c (says (body (x ∷ [])))
+  listed : {c : Command} (limit first count : ℕ) (status : Bool) → limit ≤ blocks → Asked v blocks fields c (lists limit first count status)
+  states : {c : Command} (limit first count : ℕ) → limit ≤ blocks → Asked v blocks fields c (says (body (statuses v limit first count)))
+  -- of B3h alone
   presented : Asked v blocks fields Present (presents (getD fields 0 0) (numberAt 8 fields 1))
-  blocks-written : (e : Entry) (first n : ℕ) → anyBarred v first n ≡ false
-      → Asked v blocks fields Write (writes (blockUnits first n (dataOf e fields)))
-  block-locked : (b : ℕ) → Asked v blocks fields Lock (writes (blockLock b ∷ []))
-  afi-written : Asked v blocks fields WriteAfi (writes (afi (getD fields 0 0) ∷ []))
-  afi-locked : Asked v blocks fields LockAfi (writes (afiLock ∷ []))
-  dsfid-written : Asked v blocks fields WriteDsfid (writes (dsfid (getD fields 0 0) ∷ []))
-  dsfid-locked : Asked v blocks fields LockDsfid (writes (dsfidLock ∷ []))
-  register-written : (address : ℕ) → writtenOf (lastEnd blocks) v address (getD fields 1 0) ≡ written.Done
-      → Asked v blocks fields WriteRegister (writes (register address (getD fields 1 0) ∷ []))
-  password-written : (n : ℕ) → isOpen (v .session) n ≡ true → Asked v blocks fields WritePassword (writes (password n (numberAt 8 fields 1) ∷ []))
+  blocks-written : {c : Command} (e : Entry) (first n : ℕ) → anyBarred v first n ≡ false
+      → Asked v blocks fields c (writes (blockUnits first n (dataOf e fields)))
+  block-locked : {c : Command} (b : ℕ) → Asked v blocks fields c (writes (blockLock b ∷ []))
+  afi-written : {c : Command} → Asked v blocks fields c (writes (afi (getD fields 0 0) ∷ []))
+  afi-locked : {c : Command} → Asked v blocks fields c (writes (afiLock ∷ []))
+  dsfid-written : {c : Command} → Asked v blocks fields c (writes (dsfid (getD fields 0 0) ∷ []))
+  dsfid-locked : {c : Command} → Asked v blocks fields c (writes (dsfidLock ∷ []))
+  register-written : {c : Command} (address : ℕ) → writtenOf (lastEnd blocks) v address (getD fields 1 0) ≡ written.Done
+      → Asked v blocks fields c (writes (register address (getD fields 1 0) ∷ []))
+  password-written : {c : Command} (n : ℕ) → isOpen (v .session) n ≡ true → Asked v blocks fields c (writes (password n (numberAt 8 fields 1) ∷ []))
 
 module _ (t : Front) (v : View) (blocks : ℕ) (e : Entry) (option : Bool) (fields : List ℕ) where
   abbrev Is : Command → Act → Type 0
@@ -181,9 +182,10 @@ pub data InField (t : Front) (v : View) (blocks : ℕ) : Event → Work → Type
   opened : {f : List ℕ} → unheard (dropped t) f ≡ false → oneSlot f ≡ false
       → InField t v blocks (request f)
       (work (withRound (dropped t) (round.Open 0 (maskLength f))) (says (inSlot (dropped t) 0 (maskLength f))))
-  done : {f : List ℕ} (e : Entry) (option : Bool) (start : ℕ) → Hears (dropped t) f (heard.Request e option start)
-      → Asked v blocks (fieldsFrom start f) (e .command) (actOf (e .command) (dropped t) v blocks e option (fieldsFrom start f))
-      → InField t v blocks (request f) (requestOf (dropped t) v blocks e option (fieldsFrom start f))
+  done : {f : List ℕ} → Passes (dropped t) f
+      → Asked v blocks (fieldsFrom (fieldsAt f) f) (entryOf (codeOf f) .command)
+      (actOf (entryOf (codeOf f) .command) (dropped t) v blocks (entryOf (codeOf f)) (optionFlag f) (fieldsFrom (fieldsAt f) f))
+      → InField t v blocks (request f) (requestOf (dropped t) v blocks (entryOf (codeOf f)) (optionFlag f) (fieldsFrom (fieldsAt f) f))
 
 pub data Came (t : Front) (v : View) (blocks : ℕ) : Event → Work → Type 0 where
   nothing : {e : Event} → Came t v blocks e (work t (says silence))
@@ -199,7 +201,7 @@ module _ (t : Front) (v : View) (blocks : ℕ) where
       if-one (InField t v blocks (request f)) (unheard (dropped t) f) (λ u. ignored) (λ u.
       if-one (InField t v blocks (request f)) (oneSlot f) (λ o. found) (λ o. opened u o))
   frame-came f (wrong c h) = refused c h
-  frame-came f (passes p) = done _ _ _ (passes p) (asked (dropped t) v blocks _ _ _ (entryOf (codeOf f) .command))
+  frame-came f (passes p) = done p (asked (dropped t) v blocks (entryOf (codeOf f)) (optionFlag f) _ (entryOf (codeOf f) .command))
 
   round-came : (r : Round) → t .round ≡ r → InField t v blocks endOfFrame (roundEnds r t)
   unfolding nextSlot

@@ -104,7 +104,7 @@ module _ (chosen : ℕ → Bool) (v : View) (shut : Shut chosen (v .session)) wh
   field-harmless (shape.refused c h) = refl
   field-harmless shape.found = refl
   field-harmless (shape.opened u o) = refl
-  field-harmless (shape.done e option start p a) = act-harmless a
+  field-harmless (shape.done p a) = act-harmless a
 
   came-harmless : {t : Front} {blocks : ℕ} {e : Event} {w : Work} → Came t v blocks e w → HarmlessWork w
   unfolding harmlessAct

@@ -114,7 +114,7 @@ field-fits h shape.deselected = omega arith
 field-fits h (shape.refused c k) = omega arith
 field-fits {t} h shape.found = omega (arith, length-bytes 8 (t .uid))
 field-fits {t} h (shape.opened u o) = slot-fits (dropped t) 0 _
-field-fits h (shape.done e option start p a) = act-fits h a
+field-fits h (shape.done p a) = act-fits h a
 
 came-fits : {t : Front} {v : View} {blocks : ℕ} {e : Event} {w : Work} → blocks ≤ 2048 → Came t v blocks e w → Fits (w .act)
 came-fits h shape.nothing = omega arith

@@ -23,5 +23,6 @@ pub mod Harmless
 pub mod Unchanged
 pub mod Unlearned
 pub mod Secret
+pub mod Demand3
 pub mod SecretExamples
 pub mod Refused

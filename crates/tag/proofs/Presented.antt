@@ -26,7 +26,8 @@ use Rattle.tag.specs.Frame.{flagBit, codeOf, optionFlag, fieldsAt, other
 use Rattle.tag.specs.Work.{Act, Work}
 use Rattle.tag.specs.Commands.{actOf, requestOf}
 use Rattle.tag.specs.Step.{Event, dropped, frameOf, workOf}
-use Rattle.tag.specs.Secrecy.{Claim, claimOf, presented, PresentedBy, in-frame}
+use Rattle.tag.specs.Demand3.{Claim, PresentedBy, in-frame}
+use Rattle.tag.specs.Secrecy.{claimOf, presented}
 use Rattle.tag.proofs.Came.{Asked, InField, Came, came}
 use Rattle.tag.proofs.Came as shape
 
@@ -101,7 +102,7 @@ module _ (t : Tag) (c : Claim) (on : t .front .field ≡ true) where
   field-presents (shape.refused x k) h = unsaid h
   field-presents shape.found h = unsaid h
   field-presents (shape.opened u o) h = unsaid h
-  field-presents (shape.done {f} e option start (shape.passes p) a) h =
+  field-presents (shape.done {f} p a) h =
       let q = act-presents a h in
       rw (← q .1) (in-frame on (present-code (codeOf f) (q .0)) (passes-same (dropped (t .front)) (t .front) f refl refl p))
 

@@ -16,20 +16,20 @@ use Rattle.record.specs.declared.Refusal.the-variants as refusal
 use Rattle.tag.specs.Rules.{blocksOf, sound}
 use Rattle.tag.specs.Step.{Event, step, run}
 use Rattle.tag.specs.Host.{isMemory, leastRoom, EventGiven, eventRefused, eventDone, eventGiven}
-use Rattle.tag.specs.Secrecy.{Shut, presented, opens, unopened, Alike, Secrecy, only, Demand3, unrefused, SameCall, CallSecrecy, served, unopenedCalls, CallsSecrecy}
+use Rattle.tag.specs.Secrecy.{Shut, presented, opens, unopened, Alike, Secrecy, unrefused, SameCall, CallSecrecy, served, unopenedCalls, CallsSecrecy}
 use Rattle.tag.proofs.Unchanged.{as-it-was, kept-after, kept-step, unchanged}
 use Rattle.tag.proofs.Unlearned.{alike-step}
 
 module _ (chosen : ℕ → Bool) where
   -- the session of the other tag is the same
-  shut-too : (t u : Tag) (m o : List ℕ) → Alike chosen t u m o → Shut chosen (t .vault .keys .session) → Shut chosen (u .vault .keys .session)
+  pub shut-too : (t u : Tag) (m o : List ℕ) → Alike chosen t u m o → Shut chosen (t .vault .keys .session) → Shut chosen (u .vault .keys .session)
   shut-too t u m o a shut = subst (λ (v : View). Shut chosen (v .session)) (a .view) shut
 
   -- ---- runs
 
-  pub record SameRun (t u : Tag) (m o : List ℕ) (es : List Event) : Type 0 where
-    pub answers : run t m es .answers ≡ run u o es .answers
-    pub alike : Alike chosen (run t m es .tag) (run u o es .tag) (run t m es .memory) (run u o es .memory)
+  record SameRun (t u : Tag) (m o : List ℕ) (es : List Event) : Type 0 where
+    answers : run t m es .answers ≡ run u o es .answers
+    alike : Alike chosen (run t m es .tag) (run u o es .tag) (run t m es .memory) (run u o es .memory)
 
   unlearned : (t u : Tag) (m o : List ℕ) (es : List Event)
       → Alike chosen t u m o → Shut chosen (t .vault .keys .session) → unopened chosen t m es ≡ true → unopened chosen u o es ≡ true
@@ -137,7 +137,3 @@ module _ (chosen : ℕ → Bool) where
         kept = kept-after chosen _ _ _ _ _ _ (s .kept) (r .kept);
         kept′ = kept-after chosen _ _ _ _ _ _ (s .kept′) (r .kept′);
       }
-
--- the demand
-pub demand3 : Demand3
-demand3 = (secrecy (only 1), secrecy (only 2), secrecy (only 3))

@@ -1,6 +1,6 @@
 -- The theorem of demand 3 is not empty: pairs of different tags and lists of events that meet its premises, and what it says of them. And
--- each premise is needed: pairs and lists that meet all but one, after which the answers differ. Frames and expected bytes are literals of
--- the second model.
+-- what it asks of sessions and presentations is needed: where it does not hold, the answers differ. Frames and expected bytes are literals
+-- of the second model.
 -- Assumes nothing.
 use Prim.Native.Nat.{ℕ, zero, suc, _+_, _/_, _≤_, _<_}
 use mathlib.Core.Path.{_≡_, refl, sym, ap, _∙_}
@@ -8,15 +8,16 @@ use mathlib.Core.Logic.{_≢_}
 use mathlib.Core.Bool.{Bool, true, false}
 use mathlib.Core.List.{List, [], _∷_, _++_, map}
 use native.Mathlib.Omega.{arith}
-use lib.ListN.{length, getD, replicate}
+use lib.ListN.{length, getD, take, replicate}
 use Rattle.put.specs.Number.{numberAt, bytesOf}
 use Rattle.crc.specs.Crc.{crcBit, crcBits, crcByte, crcFrom, crcOf, crcBytes}
 use Rattle.rights.specs.declared.Session.{Session}
 use Rattle.rights.specs.declared.Session.the-variants.{None, Configuration, User1}
+use Rattle.rights.specs.Vault.{viewOf}
 use Rattle.rights.specs.Passwords.{sessionOf, isOpen, passwordOf, presentOf, changedOf}
 use Rattle.rights.specs.Blocks.{areaOf, registerOf, serves, mayRead, mayWrite, readableAt, writableAt, lockedAt, barredAt, statusAt, crossesAt, anyBarred, hiddenBy}
 use Rattle.rights.specs.Registers.{registerAt, isRegister, allows, permits, writtenOf, withRegister, possible}
-use Rattle.rights.proofs.Hidden.{none-open}
+use Rattle.rights.proofs.Hidden.{none-open, hidden-by-one}
 use Rattle.record.specs.declared.Tag.{Tag}
 use Rattle.record.specs.Update.{withFront, passingCleared}
 use Rattle.tag.specs.Rules.{blocksOf, offRule, roundRule, heldRule, togetherRule, sound}
@@ -29,9 +30,11 @@ use Rattle.tag.specs.Commands.{actOf, requestOf}
 use Rattle.tag.specs.Step.{Event, fieldOn, fieldOff, endOfFrame, request, frameOf, workOf, step, run}
 use Rattle.tag.specs.Image.{factory}
 use Rattle.tag.specs.Host.{numberOf, eventGiven}
-use Rattle.tag.specs.Secrecy.{SameBut, Alike, Shut, presented, unopened, Secret, only, Call, Seen, served, unopenedCalls, SameServed}
+use Rattle.tag.specs.Demand3.{Except, Unaltered, Untold}
+use Rattle.tag.specs.Secrecy.{SameBut, Alike, Shut, presented, unopened, only, Call, Seen, served, unopenedCalls}
 use Rattle.tag.specs.Cases.{bytes, ours}
-use Rattle.tag.proofs.Secret.{secrecy, calls-secrecy}
+use Rattle.tag.proofs.Secret.{shut-too, calls-secrecy}
+use Rattle.tag.proofs.Demand3.{except-is, closed-is, is-unopened, unaltered-is, demanded}
 
 -- ---- lists that differ in one part
 
@@ -67,12 +70,17 @@ pub record Met (p : ℕ) (t u : Tag) (m o : List ℕ) (es : List Event) (said : 
   pub passwords : passwordOf (t .vault .keys) p ≢ passwordOf (u .vault .keys) p
   pub memory : m ≢ o
 
--- the theorem holds of it, so the second tag answers as the first
-pub secret : {p : ℕ} {t u : Tag} {m o : List ℕ} {es : List Event} {said : List (List ℕ)} → Met p t u m o es said → Secret (only p) t u m o es
-secret {p} {t} {u} {m} {o} {es} x = secrecy (only p) t u m o es (x .alike) (x .shut) (x .met) (x .met′)
+module _ {p : ℕ} {t u : Tag} {m o : List ℕ} {es : List Event} {said : List (List ℕ)} (some-p : p ≢ 0) (x : Met p t u m o es said) where
+  -- the theorem holds of it
+  pub untold : Untold p t u m o es
+  untold =
+      demanded p some-p t u m o es (except-is p some-p (x .alike))
+      (closed-is p some-p (x .shut)) (closed-is p some-p (shut-too (only p) t u m o (x .alike) (x .shut)))
+      (is-unopened p some-p (x .met)) (is-unopened p some-p (x .met′))
 
-pub answered-too : {p : ℕ} {t u : Tag} {m o : List ℕ} {es : List Event} {said : List (List ℕ)} → Met p t u m o es said → run u o es .answers ≡ said
-answered-too x = sym (secret x .answers) ∙ x .answered
+  -- so the second tag answers as the first
+  pub answered-too : run u o es .answers ≡ said
+  answered-too = sym (untold .answers) ∙ x .answered
 
 -- ---- a pair that differs in password 1 and Area 2
 
@@ -206,9 +214,12 @@ calls =
     ∷ record { event = request (bytes 5 0x0220080FDC); room = enough }
     ∷ []
 
--- number and length of each
+-- number and answer of each
 pub told : List Seen → List (List ℕ)
-told = map (λ (s : Seen). numberOf (s .refusal) ∷ s .length ∷ [])
+told = map (λ (s : Seen). numberOf (s .refusal) ∷ take (s .length) (s .room))
+
+pub numbers : List (List ℕ)
+numbers = (0 ∷ []) ∷ (2 ∷ []) ∷ (2 ∷ []) ∷ (0 ∷ bytes 4 0x0115B351) ∷ []
 
 -- ---- a pair that differs in password 3 and Area 4
 
@@ -330,7 +341,7 @@ pub record Computed : Type 0 where
   pub off′ : unopened (only 1) second secondMemory unpowered ≡ true
   pub met : unopenedCalls (only 1) first firstMemory calls ≡ true
   pub met′ : unopenedCalls (only 1) second secondMemory calls ≡ true
-  pub numbers : told (served first firstMemory calls .seen) ≡ (0 ∷ 0 ∷ []) ∷ (2 ∷ 0 ∷ []) ∷ (2 ∷ 0 ∷ []) ∷ (0 ∷ 4 ∷ []) ∷ []
+  pub said : told (served first firstMemory calls .seen) ≡ numbers
   pub large : Plays 3 third thirdMemory atTheEnd true answersAtTheEnd
   pub large′ : unopened (only 3) fourth fourthMemory atTheEnd ≡ true
   pub its : Plays 1 (firstIn User1) firstMemory reading true (firstEight ∷ [])
@@ -345,7 +356,7 @@ pub record Computed : Type 0 where
   pub configured′ : Plays 1 (secondIn None) secondMemory configuring false (success ∷ success ∷ secondEight ∷ [])
 
 pub computed : Computed
-unfolding first second firstIn secondIn firstMemory secondMemory tagOf memoryOf lowest events answers unpowered enough calls told eventGiven served unopenedCalls third fourth thirdMemory fourthMemory largeOf largeMemoryOf largeLowest atTheEnd answersAtTheEnd reading writing opening openingOther configuring firstEight secondEight success wrong unreadable sound offRule roundRule heldRule togetherRule possible presented unopened bytes ours numberAt bytesOf crcBit crcBits crcByte crcFrom crcOf crcBytes sessionOf isOpen presentOf changedOf areaOf registerOf serves mayRead mayWrite readableAt writableAt lockedAt barredAt statusAt crossesAt anyBarred registerAt isRegister allows permits writtenOf withRegister entryOf firstOf moreOf headOf limitOf lengthOf check2 check3 check4 custom check5 afterCode fieldsAt otherUid check6 selectOfAnother check7 check8 check9 check10 heardOf listing applyToTag applyToMemory perform maskTooLong wrongLength afiMatches afiFits maskFits slotOf inSlot unheard inventoryOf nextSlot readVerdict statuses statusVerdict writeVerdict blockUnits lockVerdict actOf requestOf frameOf workOf step run factory
+unfolding first second firstIn secondIn firstMemory secondMemory tagOf memoryOf lowest events answers unpowered enough calls told numbers eventGiven served unopenedCalls third fourth thirdMemory fourthMemory largeOf largeMemoryOf largeLowest atTheEnd answersAtTheEnd reading writing opening openingOther configuring firstEight secondEight success wrong unreadable sound offRule roundRule heldRule togetherRule possible presented unopened bytes ours numberAt bytesOf crcBit crcBits crcByte crcFrom crcOf crcBytes sessionOf isOpen presentOf changedOf areaOf registerOf serves mayRead mayWrite readableAt writableAt lockedAt barredAt statusAt crossesAt anyBarred registerAt isRegister allows permits writtenOf withRegister entryOf firstOf moreOf headOf limitOf lengthOf check2 check3 check4 custom check5 afterCode fieldsAt otherUid check6 selectOfAnother check7 check8 check9 check10 heardOf listing applyToTag applyToMemory perform maskTooLong wrongLength afiMatches afiFits maskFits slotOf inSlot unheard inventoryOf nextSlot readVerdict statuses statusVerdict writeVerdict blockUnits lockVerdict actOf requestOf frameOf workOf step run factory
 computed =
     record {
       small = record { sound = refl; met = refl; answers = refl };
@@ -354,7 +365,7 @@ computed =
       off′ = refl;
       met = refl;
       met′ = refl;
-      numbers = refl;
+      said = refl;
       large = record { sound = refl; met = refl; answers = refl };
       large′ = refl;
       its = record { sound = refl; met = refl; answers = refl };
@@ -371,6 +382,9 @@ computed =
 
 -- ---- they meet the premises, and what follows
 
+one : _≢_ {A = ℕ} 1 0
+one e = omega arith
+
 shut-none : (p : ℕ) → Shut (only p) None
 shut-none p = record { closed = λ n g. none-open n }
 
@@ -383,7 +397,7 @@ alike-small s = record {
   memory = one-part _ lowest (bytes 4 0xA1A2A3A4) (bytes 4 0xB1B2B3B4) _ refl (λ i k l. let e : i / 4 ≡ 8 = omega arith in rw e);
 }
 
--- of any events that meet the third premise
+-- of any events that present neither tag its own passwords
 small-meets : {es : List Event} {said : List (List ℕ)} → Plays 1 first firstMemory es true said → unopened (only 1) second secondMemory es ≡ true
     → Met 1 first second firstMemory secondMemory es said
 unfolding first second firstMemory secondMemory tagOf memoryOf lowest bytes bytesOf
@@ -404,9 +418,26 @@ small-met = small-meets (computed .small) (computed .small′)
 pub off-met : Met 1 first second firstMemory secondMemory unpowered ([] ∷ [] ∷ [] ∷ unreadable ∷ [])
 off-met = small-meets (computed .off) (computed .off′)
 
-pub calls-met : SameServed (only 1) first second firstMemory secondMemory calls
+-- the same of the calls
+pub record Called (t u : Tag) (m o : List ℕ) (seen seen′ : List Seen) (t′ u′ : Tag) (m′ o′ : List ℕ) : Type 0 where
+  pub said : told seen ≡ numbers
+  pub said′ : told seen′ ≡ numbers
+  pub still : Except 1 t′ u′ m′ o′
+  pub unaltered : Unaltered 1 t m t′ m′
+  pub unaltered′ : Unaltered 1 u o u′ o′
+
+pub calls-met : let r = served first firstMemory calls in let s = served second secondMemory calls in
+    Called first second firstMemory secondMemory (r .seen) (s .seen) (r .tag) (s .tag) (r .memory) (s .memory)
 unfolding first second tagOf
-calls-met = calls-secrecy (only 1) first second firstMemory secondMemory calls (alike-small None) (shut-none 1) (computed .met) (computed .met′)
+calls-met =
+    let s = calls-secrecy (only 1) first second firstMemory secondMemory calls (alike-small None) (shut-none 1) (computed .met) (computed .met′) in
+    record {
+      said = computed .said;
+      said′ = sym (ap told (s .seen)) ∙ computed .said;
+      still = except-is 1 one (s .alike);
+      unaltered = unaltered-is 1 one (s .kept);
+      unaltered′ = unaltered-is 1 one (s .kept′);
+    }
 
 pub large-met : Met 3 third fourth thirdMemory fourthMemory atTheEnd answersAtTheEnd
 unfolding third fourth thirdMemory fourthMemory largeOf largeMemoryOf largeLowest bytes bytesOf hiddenBy areaOf registerOf
@@ -426,7 +457,7 @@ large-met = record {
   memory = λ e. let z : _≡_ {A = ℕ} 0xA1 0xB1 = ap (λ (m : List ℕ). getD m 8188 0) e in omega arith;
 }
 
--- what each keeps, by the theorem: after those events block 8 of each tag begins as it did, and password 1 is its own
+-- what the theorem says of the end: block 8 of each tag begins as it did, and password 1 is its own
 pub record Still (t u : Tag) (m o : List ℕ) : Type 0 where
   pub block : getD m 32 0 ≡ 0xA1
   pub block′ : getD o 32 0 ≡ 0xB1
@@ -438,15 +469,15 @@ pub still : Still
     (run first firstMemory events .memory) (run second secondMemory events .memory)
 unfolding first second tagOf firstMemory secondMemory memoryOf lowest bytes bytesOf hiddenBy areaOf registerOf
 still =
-    let s = secret small-met in
+    let s = untold one small-met in
     record {
-      block = s .kept .memory .at 32 refl;
-      block′ = s .kept′ .memory .at 32 refl;
-      password = s .kept .passwords 1 refl;
-      password′ = s .kept′ .passwords 1 refl;
+      block = s .unaltered .bytes 32 (hidden-by-one 1 one (viewOf (first .vault)) 8 .0 refl);
+      block′ = s .unaltered′ .bytes 32 (hidden-by-one 1 one (viewOf (second .vault)) 8 .0 refl);
+      password = s .unaltered .its;
+      password′ = s .unaltered′ .its;
     }
 
--- ---- each premise is needed
+-- ---- what is asked of sessions and presentations is needed
 
 -- the two tags with session s open at the start are alike; whether each of them hears none of its own passwords that guard; and their
 -- answers differ

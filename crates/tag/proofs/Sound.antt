@@ -17,6 +17,8 @@ use Rattle.record.specs.declared.State.the-variants.{Ready}
 use Rattle.record.specs.Update.{withState, withFront, powered}
 use Rattle.record.specs.Tests.{isQuiet, noRound, noneHeld}
 use Rattle.tag.specs.Rules.{blocksOf, lastEnd, offRule, roundRule, heldRule, togetherRule, sound}
+use Rattle.tag.specs.Table.{entryOf}
+use Rattle.tag.specs.Frame.{codeOf, optionFlag}
 use Rattle.tag.specs.Work.{Answer, silence, verdict, body, Work, perform}
 use Rattle.tag.specs.Inventory.{maskLength, maskTooLong, wrongLength, unheard}
 use Rattle.tag.specs.Commands.{frontAfter, isHolding, requestOf}
@@ -90,10 +92,11 @@ module _ (blocks : ℕ) (t : Tag) (m : List ℕ) (l : Live (lastEnd blocks) t) w
         held = refl;
         together = rw awake;
       }
-  field-live (shape.done n option start p a) =
-      let after = front-by (λ (f : Front). Clear e (withFront t f)) clear (λ s. clear) (n .command) in
+  field-live (shape.done {f} p a) =
+      let n = entryOf (codeOf f) in
+      let after = front-by (λ (g : Front). Clear e (withFront t g)) clear (λ s. clear) (n .command) in
       let d = act-fine blocks (withFront t (frontAfter (n .command) (dropped (t .front)))) m after a in
-      settled-live e (option && isHolding (n .option)) _ _ _ (d .tag) (d .answer)
+      settled-live e (optionFlag f && isHolding (n .option)) _ _ _ (d .tag) (d .answer)
 
 -- ---- any event
 

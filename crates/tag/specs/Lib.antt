@@ -8,5 +8,6 @@ pub mod Commands
 pub mod Step
 pub mod Image
 pub mod Host
+pub mod Demand3
 pub mod Secrecy
 pub mod Cases

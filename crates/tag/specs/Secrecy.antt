@@ -1,9 +1,6 @@
--- Demand 3: "Take two tags alike except in password 1, 2 or 3, whichever is chosen, and in bytes of Areas 2 to 4 that only that password
--- makes readable. In neither is its session or the configuration session open. Feed both the same events, of any number, in which neither
--- tag's chosen password nor its configuration password is presented under its number. By the definition of demand 2, both give the same
--- bytes and the same silences. They still differ only there, and those passwords and bytes are unchanged."
--- Stated for a set of chosen passwords; the demand is the set of 1 alone, of 2 alone and of 3 alone. A tag is its record, t or u, with its
--- memory, m or o. The sections below take the demand's words in turn; where 01 is quoted, it is named.
+-- Demand 3 as the proofs go by it: by tests that compute, and for a set of chosen passwords, of which the demand takes 1 alone, 2 alone and
+-- 3 alone. Demand3 says it in facts, and is proved from this. Then the same of host calls. A tag is its record, t or u, with its memory, m
+-- or o. Words in quotation marks are the demand's.
 -- Assumes nothing.
 use Prim.Native.Nat.{ℕ, _/_}
 use mathlib.Core.Path.{_≡_}
@@ -13,7 +10,6 @@ use mathlib.Core.Option.{Option, none, some}
 use lib.ListN.{length, getD}
 use lib.Dec.{eqb}
 use Rattle.put.specs.If.{if_then_else_}
-use Rattle.put.specs.Number.{numberAt}
 use Rattle.rights.specs.declared.Areas.{Areas}
 use Rattle.rights.specs.declared.Keys.{Keys}
 use Rattle.rights.specs.declared.Session.{Session}
@@ -25,16 +21,16 @@ use Rattle.record.specs.declared.Tag.{Tag}
 use Rattle.record.specs.declared.Refusal.{Refusal}
 use Rattle.record.specs.declared.Outcome.{Outcome}
 use Rattle.tag.specs.Rules.{blocksOf}
-use Rattle.tag.specs.Frame.{codeOf, fieldsAt, fieldsFrom, Passes}
 use Rattle.tag.specs.Work.{Act, says, lists, presents, writes, closes}
-use Rattle.tag.specs.Step.{Event, request, workOf, step, run}
+use Rattle.tag.specs.Step.{Event, workOf, step, run}
 use Rattle.tag.specs.Host.{numberOf, EventGiven, eventGiven, EventGives}
+use Rattle.tag.specs.Demand3.{Claim}
 
 -- ---- "bytes of Areas 2 to 4 that only that password makes readable"
 
 -- byte i of the memory, which is in block i / 4. `hiddenBy`, of rights, says of a block that it is in Areas 2 to 4, that its register has
--- protection 10 or 11, and that the register's password bits name a chosen password: by the laws hidden-by-one and hidden-only, of rights,
--- that it is readable in the session of a chosen password and in no session that is none of theirs
+-- protection 10 or 11, and that the register's password bits name a chosen password: of passwords 1 to 3, by the laws hidden-by-one and
+-- hidden-only, of rights, that it is readable in the session of a chosen password and in no session that is none of theirs
 abbrev pub hidden : (ℕ → Bool) → Areas → ℕ → Bool
 hidden chosen a i = hiddenBy chosen a (i / 4)
 
@@ -64,11 +60,6 @@ pub record Shut (chosen : ℕ → Bool) (s : Session) : Type 0 where
 
 -- ---- "neither tag's chosen password nor its configuration password is presented under its number"
 
--- what is presented: a value, as the password of a number
-pub record Claim : Type 0 where
-  pub number : ℕ
-  pub value : ℕ
-
 abbrev pub claimOf : Act → Option Claim
 claimOf (says a) = none
 claimOf (lists limit first count status) = none
@@ -76,15 +67,9 @@ claimOf (presents n w) = some (record { number = n; value = w })
 claimOf (writes us) = none
 claimOf closes = none
 
--- an event presents to a tag what the tag's step on that event goes by
+-- an event presents to a tag what the tag's step on that event goes by: by the law presented-means, just what `PresentedBy` of Demand3 says
 unfoldable pub presented : Tag → List ℕ → Event → Option Claim
 presented t m e = claimOf (workOf (t .front) (viewOf (t .vault)) (blocksOf m) e .act)
-
--- 01: "Present B3h (number, 8 bytes; presented means in a frame that passes all checks)": in the field, number and value of the fields of such a
--- frame. By the law presented-means, `presented` finds just this
-pub data PresentedBy (t : Tag) : Event → Claim → Type 0 where
-  in-frame : {f : List ℕ} → t .front .field ≡ true → codeOf f ≡ 0xB3 → Passes (t .front) f
-      → PresentedBy t (request f) (record { number = getD (fieldsFrom (fieldsAt f) f) 0 0; value = numberAt 8 (fieldsFrom (fieldsAt f) f) 1 })
 
 -- what is presented is the tag's password of that number, and one of those that guard
 abbrev pub opens : (ℕ → Bool) → Keys → Option Claim → Bool
@@ -115,7 +100,7 @@ Unchanged chosen =
     → unopened chosen t m es ≡ true
     → Kept chosen (t .vault) m (run t m es .tag .vault) (run t m es .memory)
 
--- ---- "By the definition of demand 2, both give the same bytes and the same silences. They still differ only there": the whole demand
+-- ---- "By the definition of demand 2, both give the same bytes and the same silences. They still differ only there"
 
 -- the answers are a list with one for each event, silence being no bytes; "still differ only there" is `Alike` again
 pub record Secret (chosen : ℕ → Bool) (t u : Tag) (m o : List ℕ) (es : List Event) : Type 0 where
@@ -137,9 +122,6 @@ Secrecy chosen =
 -- "password 1, 2 or 3, whichever is chosen"
 abbrev pub only : ℕ → ℕ → Bool
 only p n = eqb n p
-
-abbrev pub Demand3 : Type 0
-Demand3 = Secrecy (only 1) × Secrecy (only 2) × Secrecy (only 3)
 
 -- ---- the same of host calls, whatever is lent
 

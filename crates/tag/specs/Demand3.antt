@@ -1,0 +1,88 @@
+-- Demand 3, in facts: "Take two tags alike except in password 1, 2 or 3, whichever is chosen, and in bytes of Areas 2 to 4 that only that
+-- password makes readable. In neither is its session or the configuration session open. Feed both the same events, of any number, in which
+-- neither tag's chosen password nor its configuration password is presented under its number. By the definition of demand 2, both give the
+-- same bytes and the same silences. They still differ only there, and those passwords and bytes are unchanged."
+-- A tag is its record, t or u, with its memory, m or o; p is the password chosen. Words in quotation marks are the demand's, or 01's where 01
+-- is named.
+-- Assumes nothing.
+use Prim.Native.Nat.{ℕ, _/_}
+use mathlib.Core.Path.{_≡_}
+use mathlib.Core.Logic.{_≢_, _⊎_}
+use mathlib.Core.Bool.{true, false}
+use mathlib.Core.List.{List, _∷_}
+use lib.ListN.{length, getD}
+use Rattle.put.specs.Number.{numberAt}
+use Rattle.rights.specs.Vault.{viewOf}
+use Rattle.rights.specs.Passwords.{isOpen, passwordOf}
+use Rattle.rights.specs.Blocks.{OnlyThis}
+use Rattle.record.specs.declared.Tag.{Tag}
+use Rattle.tag.specs.Frame.{codeOf, fieldsAt, fieldsFrom, Passes}
+use Rattle.tag.specs.Step.{Event, request, step, run}
+
+-- ---- "two tags alike except in password 1, 2 or 3, whichever is chosen, and in bytes .. that only that password makes readable"
+
+-- `viewOf`, of rights, is all of a vault but the passwords: registers, locks and the open session. Byte i of the memory is in block i / 4;
+-- `OnlyThis`, of rights, says of a block that it is readable in p's session, and in no session that is not p's
+pub record Except (p : ℕ) (t u : Tag) (m o : List ℕ) : Type 0 where
+  pub front : t .front ≡ u .front
+  pub view : viewOf (t .vault) ≡ viewOf (u .vault)
+  pub count : length (t .vault .keys .passwords) ≡ length (u .vault .keys .passwords)
+  pub passwords : (n : ℕ) → n ≢ p → passwordOf (t .vault .keys) n ≡ passwordOf (u .vault .keys) n
+  pub size : length m ≡ length o
+  pub bytes : (i : ℕ) → (OnlyThis p (viewOf (t .vault)) (i / 4) → ⊥) → getD m i 0 ≡ getD o i 0
+
+-- ---- "In neither is its session or the configuration session open."
+
+-- number 0 is configuration
+pub record Closed (p : ℕ) (t : Tag) : Type 0 where
+  pub its : isOpen (t .vault .keys .session) p ≡ false
+  pub configuration : isOpen (t .vault .keys .session) 0 ≡ false
+
+-- ---- "events, of any number, in which neither tag's chosen password nor its configuration password is presented under its number"
+
+-- a value, as the password of a number
+pub record Claim : Type 0 where
+  pub number : ℕ
+  pub value : ℕ
+
+-- 01: "Present B3h (number, 8 bytes; presented means in a frame that passes all checks)": number and value of the fields of such a frame, and
+-- in the field, since out of it no frame is looked at
+pub data PresentedBy (t : Tag) : Event → Claim → Type 0 where
+  in-frame : {f : List ℕ} → t .front .field ≡ true → codeOf f ≡ 0xB3 → Passes (t .front) f
+      → PresentedBy t (request f) (record { number = getD (fieldsFrom (fieldsAt f) f) 0 0; value = numberAt 8 (fieldsFrom (fieldsAt f) f) 1 })
+
+-- along a tag's own run, an event presents the tag's own password under the chosen number or under 0. A wrong value, another number, or a
+-- frame that the tag ignores opens nothing
+pub data Opened (p : ℕ) : Tag → List ℕ → List Event → Type 0 where
+  now : {t : Tag} {m : List ℕ} {e : Event} {es : List Event} (c : Claim)
+      → PresentedBy t e c → (c .number ≡ p) ⊎ (c .number ≡ 0) → passwordOf (t .vault .keys) (c .number) ≡ c .value → Opened p t m (e ∷ es)
+  later : {t : Tag} {m : List ℕ} {e : Event} {es : List Event} → Opened p (step t m e .tag) (step t m e .memory) es → Opened p t m (e ∷ es)
+
+-- ---- "those passwords and bytes are unchanged", of one tag: from t and m to t′ and m′
+
+pub record Unaltered (p : ℕ) (t : Tag) (m : List ℕ) (t′ : Tag) (m′ : List ℕ) : Type 0 where
+  pub its : passwordOf (t′ .vault .keys) p ≡ passwordOf (t .vault .keys) p
+  pub configuration : passwordOf (t′ .vault .keys) 0 ≡ passwordOf (t .vault .keys) 0
+  pub bytes : (i : ℕ) → OnlyThis p (viewOf (t .vault)) (i / 4) → getD m′ i 0 ≡ getD m i 0
+
+-- ---- the demand
+
+-- "both give the same bytes and the same silences. They still differ only there": one answer for each event, silence being no bytes
+pub record Untold (p : ℕ) (t u : Tag) (m o : List ℕ) (es : List Event) : Type 0 where
+  pub answers : run t m es .answers ≡ run u o es .answers
+  pub still : Except p (run t m es .tag) (run u o es .tag) (run t m es .memory) (run u o es .memory)
+  pub unaltered : Unaltered p t m (run t m es .tag) (run t m es .memory)
+  pub unaltered′ : Unaltered p u o (run u o es .tag) (run u o es .memory)
+
+abbrev pub Demanded : ℕ → Type 0
+Demanded p =
+    (t u : Tag) (m o : List ℕ) (es : List Event)
+    → Except p t u m o
+    → Closed p t → Closed p u
+    → (Opened p t m es → ⊥)
+    → (Opened p u o es → ⊥)
+    → Untold p t u m o es
+
+-- "whichever is chosen"
+abbrev pub Demand3 : Type 0
+Demand3 = Demanded 1 × Demanded 2 × Demanded 3
