@@ -16,7 +16,8 @@ use Rattle.record.specs.declared.Refusal.the-variants as refusal
 use Rattle.tag.specs.Rules.{blocksOf, sound}
 use Rattle.tag.specs.Step.{Event, step, run}
 use Rattle.tag.specs.Host.{isMemory, leastRoom, EventGiven, eventRefused, eventDone, eventGiven}
-use Rattle.tag.specs.Secrecy.{Shut, presented, opens, unopened, Alike, Secrecy, unrefused, SameCall, CallSecrecy, served, unopenedCalls, CallsSecrecy}
+use Rattle.tag.specs.Demand3.{served}
+use Rattle.tag.specs.Secrecy.{Shut, presented, opens, unopened, Alike, Secrecy, unrefused, SameCall, CallSecrecy, unopenedCalls, CallsSecrecy}
 use Rattle.tag.proofs.Unchanged.{as-it-was, kept-after, kept-step, unchanged}
 use Rattle.tag.proofs.Unlearned.{alike-step}
 

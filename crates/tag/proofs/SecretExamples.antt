@@ -30,11 +30,11 @@ use Rattle.tag.specs.Commands.{actOf, requestOf}
 use Rattle.tag.specs.Step.{Event, fieldOn, fieldOff, endOfFrame, request, frameOf, workOf, step, run}
 use Rattle.tag.specs.Image.{factory}
 use Rattle.tag.specs.Host.{numberOf, eventGiven}
-use Rattle.tag.specs.Demand3.{Except, Unaltered, Untold}
-use Rattle.tag.specs.Secrecy.{SameBut, Alike, Shut, presented, unopened, only, Call, Seen, served, unopenedCalls}
+use Rattle.tag.specs.Demand3.{Untold, Call, Seen, served, UntoldIn}
+use Rattle.tag.specs.Secrecy.{SameBut, Alike, Shut, presented, unopened, only, unopenedCalls}
 use Rattle.tag.specs.Cases.{bytes, ours}
-use Rattle.tag.proofs.Secret.{shut-too, calls-secrecy}
-use Rattle.tag.proofs.Demand3.{except-is, closed-is, is-unopened, unaltered-is, demanded}
+use Rattle.tag.proofs.Secret.{shut-too}
+use Rattle.tag.proofs.Demand3.{except-is, closed-is, is-unopened, is-calls-unopened, demanded, demanded-in}
 
 -- ---- lists that differ in one part
 
@@ -418,26 +418,16 @@ small-met = small-meets (computed .small) (computed .small′)
 pub off-met : Met 1 first second firstMemory secondMemory unpowered ([] ∷ [] ∷ [] ∷ unreadable ∷ [])
 off-met = small-meets (computed .off) (computed .off′)
 
--- the same of the calls
-pub record Called (t u : Tag) (m o : List ℕ) (seen seen′ : List Seen) (t′ u′ : Tag) (m′ o′ : List ℕ) : Type 0 where
-  pub said : told seen ≡ numbers
-  pub said′ : told seen′ ≡ numbers
-  pub still : Except 1 t′ u′ m′ o′
-  pub unaltered : Unaltered 1 t m t′ m′
-  pub unaltered′ : Unaltered 1 u o u′ o′
-
-pub calls-met : let r = served first firstMemory calls in let s = served second secondMemory calls in
-    Called first second firstMemory secondMemory (r .seen) (s .seen) (r .tag) (s .tag) (r .memory) (s .memory)
+-- and the calls meet them
+pub calls-met : UntoldIn 1 first second firstMemory secondMemory calls
 unfolding first second tagOf
 calls-met =
-    let s = calls-secrecy (only 1) first second firstMemory secondMemory calls (alike-small None) (shut-none 1) (computed .met) (computed .met′) in
-    record {
-      said = computed .said;
-      said′ = sym (ap told (s .seen)) ∙ computed .said;
-      still = except-is 1 one (s .alike);
-      unaltered = unaltered-is 1 one (s .kept);
-      unaltered′ = unaltered-is 1 one (s .kept′);
-    }
+    demanded-in 1 one first second firstMemory secondMemory calls (except-is 1 one (alike-small None))
+    (closed-is 1 one (shut-none 1)) (closed-is 1 one (shut-none 1))
+    (is-calls-unopened 1 one (computed .met)) (is-calls-unopened 1 one (computed .met′))
+
+pub called-too : told (served second secondMemory calls .seen) ≡ numbers
+called-too = sym (ap told (calls-met .seen)) ∙ computed .said
 
 pub large-met : Met 3 third fourth thirdMemory fourthMemory atTheEnd answersAtTheEnd
 unfolding third fourth thirdMemory fourthMemory largeOf largeMemoryOf largeLowest bytes bytesOf hiddenBy areaOf registerOf

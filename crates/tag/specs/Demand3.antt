@@ -9,15 +9,17 @@ use Prim.Native.Nat.{ℕ, _/_}
 use mathlib.Core.Path.{_≡_}
 use mathlib.Core.Logic.{_≢_, _⊎_}
 use mathlib.Core.Bool.{true, false}
-use mathlib.Core.List.{List, _∷_}
+use mathlib.Core.List.{List, [], _∷_}
 use lib.ListN.{length, getD}
 use Rattle.put.specs.Number.{numberAt}
 use Rattle.rights.specs.Vault.{viewOf}
 use Rattle.rights.specs.Passwords.{isOpen, passwordOf}
 use Rattle.rights.specs.Blocks.{OnlyThis}
 use Rattle.record.specs.declared.Tag.{Tag}
+use Rattle.record.specs.declared.Refusal.{Refusal}
 use Rattle.tag.specs.Frame.{codeOf, fieldsAt, fieldsFrom, Passes}
 use Rattle.tag.specs.Step.{Event, request, step, run}
+use Rattle.tag.specs.Host.{numberOf, EventGiven, eventGiven}
 
 -- ---- "two tags alike except in password 1, 2 or 3, whichever is chosen, and in bytes .. that only that password makes readable"
 
@@ -51,11 +53,17 @@ pub data PresentedBy (t : Tag) : Event → Claim → Type 0 where
   in-frame : {f : List ℕ} → t .front .field ≡ true → codeOf f ≡ 0xB3 → Passes (t .front) f
       → PresentedBy t (request f) (record { number = getD (fieldsFrom (fieldsAt f) f) 0 0; value = numberAt 8 (fieldsFrom (fieldsAt f) f) 1 })
 
--- along a tag's own run, an event presents the tag's own password under the chosen number or under 0. A wrong value, another number, or a
--- frame that the tag ignores opens nothing
+-- an event presents to a tag its own password, under the chosen number or under 0. A wrong value, another number, or a frame that the tag
+-- ignores opens nothing
+pub record Opens (p : ℕ) (t : Tag) (e : Event) : Type 0 where
+  pub claim : Claim
+  pub by : PresentedBy t e claim
+  pub number : (claim .number ≡ p) ⊎ (claim .number ≡ 0)
+  pub value : passwordOf (t .vault .keys) (claim .number) ≡ claim .value
+
+-- so does an event of a list, along the tag's own run
 pub data Opened (p : ℕ) : Tag → List ℕ → List Event → Type 0 where
-  now : {t : Tag} {m : List ℕ} {e : Event} {es : List Event} (c : Claim)
-      → PresentedBy t e c → (c .number ≡ p) ⊎ (c .number ≡ 0) → passwordOf (t .vault .keys) (c .number) ≡ c .value → Opened p t m (e ∷ es)
+  now : {t : Tag} {m : List ℕ} {e : Event} {es : List Event} → Opens p t e → Opened p t m (e ∷ es)
   later : {t : Tag} {m : List ℕ} {e : Event} {es : List Event} → Opened p (step t m e .tag) (step t m e .memory) es → Opened p t m (e ∷ es)
 
 -- ---- "those passwords and bytes are unchanged", of one tag: from t and m to t′ and m′
@@ -86,3 +94,57 @@ Demanded p =
 -- "whichever is chosen"
 abbrev pub Demand3 : Type 0
 Demand3 = Demanded 1 × Demanded 2 × Demanded 3
+
+-- ---- the same of host calls, of any number, refused ones among them, whatever is lent
+
+-- a call: its event, and the room that is lent to it
+pub record Call : Type 0 where
+  pub event : Event
+  pub room : List ℕ
+
+-- what the caller sees after it: number, length and every byte of the room
+pub record Seen : Type 0 where
+  pub refusal : Refusal
+  pub length : ℕ
+  pub room : List ℕ
+
+abbrev pub seenOf : EventGiven → Seen
+seenOf g = record { refusal = g .result .refusal; length = g .result .length; room = g .room }
+
+-- calls in a row, each on the record and the memory that the one before it left
+pub record Served : Type 0 where
+  pub seen : List Seen
+  pub tag : Tag
+  pub memory : List ℕ
+
+unfoldable pub served : Tag → List ℕ → List Call → Served
+served t m [] = record { seen = []; tag = t; memory = m }
+served t m (c ∷ cs) =
+    let g = eventGiven t (c .event) m (c .room) in
+    let r = served (g .result .tag) (g .memory) cs in
+    record { seen = seenOf g ∷ r .seen; tag = r .tag; memory = r .memory }
+
+-- a call of a list presents to the tag its own password; one that is refused presents nothing
+pub data OpenedIn (p : ℕ) : Tag → List ℕ → List Call → Type 0 where
+  now-in : {t : Tag} {m : List ℕ} {c : Call} {cs : List Call}
+      → numberOf (eventGiven t (c .event) m (c .room) .result .refusal) ≡ 0 → Opens p t (c .event) → OpenedIn p t m (c ∷ cs)
+  later-in : {t : Tag} {m : List ℕ} {c : Call} {cs : List Call}
+      → OpenedIn p (eventGiven t (c .event) m (c .room) .result .tag) (eventGiven t (c .event) m (c .room) .memory) cs → OpenedIn p t m (c ∷ cs)
+
+pub record UntoldIn (p : ℕ) (t u : Tag) (m o : List ℕ) (cs : List Call) : Type 0 where
+  pub seen : served t m cs .seen ≡ served u o cs .seen
+  pub still : Except p (served t m cs .tag) (served u o cs .tag) (served t m cs .memory) (served u o cs .memory)
+  pub unaltered : Unaltered p t m (served t m cs .tag) (served t m cs .memory)
+  pub unaltered′ : Unaltered p u o (served u o cs .tag) (served u o cs .memory)
+
+abbrev pub DemandedIn : ℕ → Type 0
+DemandedIn p =
+    (t u : Tag) (m o : List ℕ) (cs : List Call)
+    → Except p t u m o
+    → Closed p t → Closed p u
+    → (OpenedIn p t m cs → ⊥)
+    → (OpenedIn p u o cs → ⊥)
+    → UntoldIn p t u m o cs
+
+abbrev pub Demand3OfCalls : Type 0
+Demand3OfCalls = DemandedIn 1 × DemandedIn 2 × DemandedIn 3

@@ -1,5 +1,5 @@
 -- Demand 3 as the proofs go by it: by tests that compute, and for a set of chosen passwords, of which the demand takes 1 alone, 2 alone and
--- 3 alone. Demand3 says it in facts, and is proved from this. Then the same of host calls. A tag is its record, t or u, with its memory, m
+-- 3 alone; of events and of host calls. Demand3 says both in facts, and is proved from this. A tag is its record, t or u, with its memory, m
 -- or o. Words in quotation marks are the demand's.
 -- Assumes nothing.
 use Prim.Native.Nat.{ℕ, _/_}
@@ -23,8 +23,8 @@ use Rattle.record.specs.declared.Outcome.{Outcome}
 use Rattle.tag.specs.Rules.{blocksOf}
 use Rattle.tag.specs.Work.{Act, says, lists, presents, writes, closes}
 use Rattle.tag.specs.Step.{Event, workOf, step, run}
-use Rattle.tag.specs.Host.{numberOf, EventGiven, eventGiven, EventGives}
-use Rattle.tag.specs.Demand3.{Claim}
+use Rattle.tag.specs.Host.{numberOf, eventGiven, EventGives}
+use Rattle.tag.specs.Demand3.{Claim, Call, served}
 
 -- ---- "bytes of Areas 2 to 4 that only that password makes readable"
 
@@ -151,33 +151,6 @@ CallSecrecy chosen =
     → SameCall chosen t u m o r s m′ o′ x′ y′
 
 -- ---- and of any number of them, refused ones among them
-
--- a call: its event, and the room that is lent to it
-pub record Call : Type 0 where
-  pub event : Event
-  pub room : List ℕ
-
--- what the caller sees after it: number, length and every byte of the room
-pub record Seen : Type 0 where
-  pub refusal : Refusal
-  pub length : ℕ
-  pub room : List ℕ
-
-abbrev pub seenOf : EventGiven → Seen
-seenOf g = record { refusal = g .result .refusal; length = g .result .length; room = g .room }
-
--- calls in a row, each on the record and the memory that the one before it left
-pub record Served : Type 0 where
-  pub seen : List Seen
-  pub tag : Tag
-  pub memory : List ℕ
-
-unfoldable pub served : Tag → List ℕ → List Call → Served
-served t m [] = record { seen = []; tag = t; memory = m }
-served t m (c ∷ cs) =
-    let g = eventGiven t (c .event) m (c .room) in
-    let r = served (g .result .tag) (g .memory) cs in
-    record { seen = seenOf g ∷ r .seen; tag = r .tag; memory = r .memory }
 
 -- no call of a list presents a password that guards
 unfoldable pub unopenedCalls : (ℕ → Bool) → Tag → List ℕ → List Call → Bool
