@@ -126,6 +126,8 @@ module _ (p : ℕ) (some-p : p ≢ 0) where
 
   unaltered-is : {t t′ : Tag} {m m′ : List ℕ} → Kept (only p) (t .vault) m (t′ .vault) m′ → Unaltered p t m t′ m′
   unaltered-is {t} k = record {
+    registers = k .areas;
+    size = k .memory .size;
     its = k .passwords p its-guards;
     configuration = k .passwords 0 (or-true (eqb 0 p));
     bytes = λ i o. k .memory .at i (ap not (hidden-is (viewOf (t .vault)) i o));

@@ -24,7 +24,7 @@ use Rattle.tag.specs.Host.{numberOf, EventGiven, eventGiven}
 -- ---- "two tags alike except in password 1, 2 or 3, whichever is chosen, and in bytes .. that only that password makes readable"
 
 -- `viewOf`, of rights, is all of a vault but the passwords: registers, locks and the open session. Byte i of the memory is in block i / 4;
--- `OnlyThis`, of rights, says of a block that it is readable in p's session, and in no session that is not p's
+-- `OnlyThis`, of rights, says of a block that it is readable in p's session, and neither in another nor in none: so not of Area 1
 pub record Except (p : ℕ) (t u : Tag) (m o : List ℕ) : Type 0 where
   pub front : t .front ≡ u .front
   pub view : viewOf (t .vault) ≡ viewOf (u .vault)
@@ -53,8 +53,8 @@ pub data PresentedBy (t : Tag) : Event → Claim → Type 0 where
   in-frame : {f : List ℕ} → t .front .field ≡ true → codeOf f ≡ 0xB3 → Passes (t .front) f
       → PresentedBy t (request f) (record { number = getD (fieldsFrom (fieldsAt f) f) 0 0; value = numberAt 8 (fieldsFrom (fieldsAt f) f) 1 })
 
--- an event presents to a tag its own password, under the chosen number or under 0. A wrong value, another number, or a frame that the tag
--- ignores opens nothing
+-- an event presents to a tag its own password, under the chosen number or under 0. A wrong value, another number, or a frame that does not
+-- pass all checks may come
 pub record Opens (p : ℕ) (t : Tag) (e : Event) : Type 0 where
   pub claim : Claim
   pub by : PresentedBy t e claim
@@ -68,7 +68,10 @@ pub data Opened (p : ℕ) : Tag → List ℕ → List Event → Type 0 where
 
 -- ---- "those passwords and bytes are unchanged", of one tag: from t and m to t′ and m′
 
+-- the registers stay, so that "there" is at the end where it was; and so does the memory's length
 pub record Unaltered (p : ℕ) (t : Tag) (m : List ℕ) (t′ : Tag) (m′ : List ℕ) : Type 0 where
+  pub registers : t′ .vault .areas ≡ t .vault .areas
+  pub size : length m′ ≡ length m
   pub its : passwordOf (t′ .vault .keys) p ≡ passwordOf (t .vault .keys) p
   pub configuration : passwordOf (t′ .vault .keys) 0 ≡ passwordOf (t .vault .keys) 0
   pub bytes : (i : ℕ) → OnlyThis p (viewOf (t .vault)) (i / 4) → getD m′ i 0 ≡ getD m i 0
@@ -97,12 +100,12 @@ Demand3 = Demanded 1 × Demanded 2 × Demanded 3
 
 -- ---- the same of host calls, of any number, refused ones among them, whatever is lent
 
--- a call: its event, and the room that is lent to it
+-- a call for an event, with the room that is lent to it; loading and saving are no events
 pub record Call : Type 0 where
   pub event : Event
   pub room : List ℕ
 
--- what the caller sees after it: number, length and every byte of the room
+-- what it gives but for record and memory, of which `still` speaks: number, length and every byte of the room
 pub record Seen : Type 0 where
   pub refusal : Refusal
   pub length : ℕ
