@@ -1,20 +1,27 @@
--- What the calls of the boundary leave, from what the host's calls give.
+-- What the calls of the boundary leave, from what the calls below them give.
 -- Assumes nothing.
-use Prim.Native.Nat.{ℕ, _-_, _≤_}
+use Prim.Native.Nat.{ℕ, _+_, _≤_}
 use native.Mathlib.Omega.{arith}
 use mathlib.Core.Path.{_≡_, refl, sym, _∙_}
 use mathlib.Core.Bool.{true, false}
 use mathlib.Core.List.{List}
 use lib.ListN.{length}
-use lib.Dec.{ltb}
-use borrow.Author.Tests.{le-ltb}
+use lib.Dec.{ltb, eqb}
+use borrow.Author.Tests.{le-ltb, ltb-false, eqb-false}
+use Rattle.rights.proofs.Cases.{if-one}
+use Rattle.record.specs.declared.Kind.{Kind}
 use Rattle.record.specs.declared.Refusal.{Refusal}
 use Rattle.record.specs.declared.Refusal.the-variants as refusal
 use Rattle.record.specs.declared.Outcome.{Outcome}
-use Rattle.tag.specs.Step.{eventOf}
-use Rattle.tag.specs.Host.{numberOf, isMemory, fitsImage, isImage, eventDone, eventGiven, EventGives, LoadGives, saveGiven, SaveGives}
+use Rattle.tag.specs.Step.{eventOf, step}
+use Rattle.tag.specs.Rules.{blocksOf}
+use Rattle.tag.specs.Image.{imageOf}
+use Rattle.tag.specs.Host.{numberOf, isMemory, fitsImage, isImage, eventDone, LoadGives}
+use Rattle.tag.proofs.Lasting.{NoFrame, on, off, end, header-lasts}
+use Rattle.step.specs.declared.Said.{Said}
+use Rattle.step.specs.Gives.{Gives}
 use Rattle.packed.specs.Bytes.{recordIn, isRecord, recordOf}
-use Rattle.packed.proofs.Again.{record-sound}
+use Rattle.packed.specs.Parts.{PassingLeft}
 use Rattle.cabi.specs.Calls.{resultOf, kindIn, EventLeft, eventLeft, EventLeaves, unlessRefused, loadLeft, LoadLeaves, SaveLeft, saveLeft, SaveLeaves, FactoryLeft, factoryLeft, FactoryLeaves}
 
 pub number-most : (r : Refusal) → numberOf r ≤ 5
@@ -28,22 +35,42 @@ number-most refusal.Header = omega arith
 -- ---- a call that leaves what the definition names
 
 module _ {k : ℕ} {frame r m x r′ m′ x′ : List ℕ} where
-  pub event-by : {n : ℕ} (g : EventLeft) → eventLeft k frame r m x ≡ g → n ≡ g .result → r′ ≡ g .bytes → m′ ≡ g .memory → x′ ≡ g .room → EventLeaves k frame r m x r′ m′ x′ n
+  pub event-by : {n : ℕ} (g : EventLeft) → eventLeft k frame r m x ≡ g → n ≡ g .result → r′ ≡ g .bytes → m′ ≡ g .memory → x′ ≡ g .room
+      → EventLeaves k frame r m x r′ m′ x′ n
   event-by g h p q s u = record { result = rw h p; bytes = rw h q; memory = rw h s; room = rw h u }
 
   -- no number is due, and the kind is one of the four
-  pub event-taken : (o : Outcome) → isMemory m ≡ true → 10243 ≤ length x → isRecord m r ≡ true → ltb 3 k ≡ false → EventGives (recordIn r) (eventOf (kindIn k) frame) m x m′ x′ o → r′ ≡ recordOf (length m) (o .tag) → EventLeaves k frame r m x r′ m′ x′ (o .length)
-  unfolding eventLeft eventGiven
-  event-taken o a b d e g w =
-      let f = eventOf (kindIn k) frame in
-      let done : eventGiven (recordIn r) f m x ≡ eventDone (recordIn r) f m x = rw (a, le-ltb _ _ b, record-sound m r d) in
-      let z = eventDone (recordIn r) f m x in
+  pub event-taken : (s : Said) → isMemory m ≡ true → 10243 ≤ length x → isRecord m r ≡ true → ltb 3 k ≡ false
+      → Gives (step (recordIn r) m (eventOf (kindIn k) frame)) x m′ x′ s → r′ ≡ recordOf (length m) (s .tag) → EventLeaves k frame r m x r′ m′ x′ (s .length)
+  unfolding eventLeft
+  event-taken s a b d e g w =
+      let z = eventDone (recordIn r) (eventOf (kindIn k) frame) m x in
       event-by (record { result = resultOf refusal.None (z .result .length); bytes = recordOf (length m) (z .result .tag); memory = z .memory; room = z .room })
       (rw (a, le-ltb _ _ b, d, e))
-      (rw (g .result, done) (omega arith))
-      (rw (w, g .result, done))
-      (rw (g .memory, done))
-      (rw (g .room, done))
+      (rw (g .result) (omega arith))
+      (rw (w, g .result))
+      (g .memory)
+      (g .room)
+
+-- the three kinds of events that are no frame
+no-frame : (k : ℕ) (frame : List ℕ) → ltb 3 k ≡ false → (k ≡ 3 → ⊥) → NoFrame (eventOf (kindIn k) frame)
+no-frame k frame most other =
+    let P : Kind → Type 0 = λ x. NoFrame (eventOf x frame) in
+    if-one P (eqb k 0) (λ e. on) (λ zero.
+    if-one P (eqb k 1) (λ e. off) (λ one.
+    if-one P (eqb k 2) (λ e. end) (λ two.
+    absurd (other (between k (ltb-false 3 k most) (eqb-false k 0 zero) (eqb-false k 1 one) (eqb-false k 2 two))))))
+  where
+    between : (k : ℕ) → k ≤ 3 → (k ≡ 0 → ⊥) → (k ≡ 1 → ⊥) → (k ≡ 2 → ⊥) → k ≡ 3
+    between k h a b c = omega (arith, h, a, b, c)
+
+-- after one of these only the passing parts are written: the header is what it was
+pub passing-taken : {k : ℕ} {frame r m x r′ m′ x′ : List ℕ} (s : Said) → isMemory m ≡ true → 10243 ≤ length x → isRecord m r ≡ true → ltb 3 k ≡ false
+    → (k ≡ 3 → ⊥)
+    → Gives (step (recordIn r) m (eventOf (kindIn k) frame)) x m′ x′ s → PassingLeft (s .tag) r r′ → EventLeaves k frame r m x r′ m′ x′ (s .length)
+passing-taken {k} {frame} {r} {m} s a b d e other g w =
+    let lasts = header-lasts (length m) (recordIn r) m (no-frame k frame e other) in
+    event-taken s a b d e g (w .again (length m) (blocksOf m) d (rw (g .result) lasts))
 
 new-unless : (n : Refusal) (new old : List ℕ) → numberOf n ≡ 0 → unlessRefused n new old ≡ new
 new-unless refusal.None new old h = refl
@@ -70,15 +97,21 @@ module _ {i r m m′ : List ℕ} (o : Outcome) (g : LoadGives (recordIn r) i m m
   pub load-taken : {r′ : List ℕ} → numberOf (o .refusal) ≡ 0 → r′ ≡ recordOf (length m) (o .tag) → LoadLeaves i r m r′ m′ 0
   unfolding loadLeft
   load-taken h p =
-      record { result = rw (← g .result) (omega (arith, h)); bytes = rw (← g .result) (p ∙ sym (new-unless (o .refusal) (recordOf (length m) (o .tag)) r h)); memory = g .memory }
+      record {
+        result = rw (← g .result) (omega (arith, h));
+        bytes = rw (← g .result) (p ∙ sym (new-unless (o .refusal) (recordOf (length m) (o .tag)) r h));
+        memory = g .memory;
+      }
 
 module _ {r m i i′ : List ℕ} where
   pub save-by : {n : ℕ} (g : SaveLeft) → saveLeft r m i ≡ g → n ≡ g .result → i′ ≡ g .image → SaveLeaves r m i i′ n
   save-by g h p q = record { result = rw h p; image = rw h q }
 
-  pub save-taken : (o : Outcome) → isImage i ≡ true → fitsImage m i ≡ true → isRecord m r ≡ true → SaveGives (recordIn r) m i i′ o → SaveLeaves r m i i′ (o .length)
-  unfolding saveLeft saveGiven
-  save-taken o a b d g = record { result = rw (g .result, a, b, d, record-sound m r d) (omega arith); image = rw (g .image, a, b, d, record-sound m r d) }
+  pub save-taken : {n : ℕ} → isImage i ≡ true → fitsImage m i ≡ true → isRecord m r ≡ true → (n ≡ 64 + length m) × (i′ ≡ imageOf (recordIn r) m)
+      → SaveLeaves r m i i′ n
+  unfolding saveLeft
+  save-taken a b d h = record { result = rw (a, b, d, h .0) (omega arith); image = rw (a, b, d) (h .1) }
 
-pub factory-by : {mark uid : ℕ} {r r′ : List ℕ} {n : ℕ} (g : FactoryLeft) → factoryLeft mark uid r ≡ g → n ≡ g .result → r′ ≡ g .bytes → FactoryLeaves mark uid r r′ n
+pub factory-by : {mark uid : ℕ} {r r′ : List ℕ} {n : ℕ} (g : FactoryLeft) → factoryLeft mark uid r ≡ g → n ≡ g .result → r′ ≡ g .bytes
+    → FactoryLeaves mark uid r r′ n
 factory-by g h p q = record { result = rw h p; bytes = rw h q }

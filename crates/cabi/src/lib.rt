@@ -8,6 +8,7 @@ use image::reading::factory;
 use packed::RECORD;
 use packed::is_record;
 use packed::read_record;
+use packed::write_passing;
 use packed::write_record;
 use record::Kind;
 use record::Refusal;
@@ -76,10 +77,14 @@ pub extern "C" fn uistermo_event(
     if 3 < kind {
         return 0;
     }
-    let o = host::event(read_record(bytes), kind_in(kind), frame, memory, room);
-    let next = o.tag;
-    write_record(next, size, bytes);
-    o.length as u64
+    let s = step::step(read_record(bytes), kind_in(kind), frame, memory, room);
+    let next = s.tag;
+    if kind == 3 {
+        write_record(next, size, bytes);
+    } else {
+        write_passing(next, bytes); // only a frame changes lasting parts
+    }
+    s.length as u64
 }
 
 // "LOAD does not look at them", the bytes that were there
@@ -113,8 +118,7 @@ pub extern "C" fn uistermo_save(bytes: &[u8; RECORD], memory: &[u8], image: &mut
     if !is_record(bytes, size, last_end(size)) {
         return refused(Refusal::Record);
     }
-    let o = host::save(read_record(bytes), memory, image);
-    o.length as u64
+    image::writing::save(read_record(bytes), memory, image) as u64
 }
 
 // 1 where a record was made; 0, and nothing changed, for a size mark other than 1 and 2

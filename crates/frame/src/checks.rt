@@ -5,7 +5,6 @@ use super::places::end_of;
 use super::places::fields_at;
 use super::places::flag_bit;
 use super::places::is_custom;
-use super::table::entry_of;
 use super::table::right_length;
 use crc::crc;
 use put::byte_at;
@@ -15,10 +14,12 @@ use record::Front;
 use record::is_quiet;
 use record::is_selected;
 use tag::Command;
+use tag::Entry;
 use tag::OptionRule;
 ghost use mathlib.Core.Path.{_≡_};
 ghost use Prim.Native.Nat.{_≤_};
-ghost use Rattle.tag.specs.Frame.{endOf, fieldsAt, check2, check3, check4, check5, otherUid, check6, selectOfAnother, unlisted, check7, check8, addressedOnly, check9, takesNone, check10};
+ghost use Rattle.tag.specs.Frame.{codeOf, endOf, fieldsAt, check2, check3, check4, check5, otherUid, check6, selectOfAnother, unlisted, check7, check8, addressedOnly, check9, takesNone, check10};
+ghost use Rattle.tag.specs.Table.{entryOf};
 
 // "Under 4 bytes, or wrong CRC: silence."
 pub fn check2(frame: &[u8]) -> bool
@@ -111,20 +112,20 @@ fn is_unlisted(c: Command) -> bool
 }
 
 // "Code not listed below: error 02h."
-pub fn check7(frame: &[u8]) -> bool
+pub fn check7(e: Entry, frame: &[u8]) -> bool
+    requires { ⌜ e ≡ entryOf (codeOf (now frame)) ⌝ }
     ensures { λ r. ⌜ r ≡ check7 (now (frame .entry)) ⌝ }
 {
-    let e = entry_of(code_of(frame));
     let command = e.command;
     is_unlisted(command)
 }
 
 // "Length not the command's: silence."
-pub fn check8(frame: &[u8]) -> bool
+pub fn check8(e: Entry, frame: &[u8]) -> bool
+    requires { ⌜ e ≡ entryOf (codeOf (now frame)) ⌝ }
     requires { ⌜ fieldsAt (now frame) ≤ endOf (now frame) ⌝ }
     ensures { λ r. ⌜ r ≡ check8 (now (frame .entry)) ⌝ }
 {
-    let e = entry_of(code_of(frame));
     let start = fields_at(frame);
     let end = end_of(frame);
     !(end - start == right_length(e, &frame[start..end]))
@@ -154,10 +155,10 @@ fn addressed_only(c: Command) -> bool
 }
 
 // "Select and Stay Quiet not addressed: silence."
-pub fn check9(frame: &[u8]) -> bool
+pub fn check9(e: Entry, frame: &[u8]) -> bool
+    requires { ⌜ e ≡ entryOf (codeOf (now frame)) ⌝ }
     ensures { λ r. ⌜ r ≡ check9 (now (frame .entry)) ⌝ }
 {
-    let e = entry_of(code_of(frame));
     let command = e.command;
     addressed_only(command) & !flag_bit(frame, 6)
 }
@@ -173,10 +174,10 @@ fn takes_none(o: OptionRule) -> bool
 }
 
 // "Option_flag (bit 7) on a command that takes none: 03h."
-pub fn check10(frame: &[u8]) -> bool
+pub fn check10(e: Entry, frame: &[u8]) -> bool
+    requires { ⌜ e ≡ entryOf (codeOf (now frame)) ⌝ }
     ensures { λ r. ⌜ r ≡ check10 (now (frame .entry)) ⌝ }
 {
-    let e = entry_of(code_of(frame));
     let option = e.option;
     flag_bit(frame, 7) & takes_none(option)
 }

@@ -32,20 +32,21 @@ fn asked(frame: &[u8]) -> Heard
     requires { ⌜ fieldsAt (now frame) ≤ endOf (now frame) ⌝ }
     ensures { λ r. ⌜ r ≡ askedOf (now (frame .entry)) ⌝ }
 {
-    if check7(frame) {
+    let e = entry_of(code_of(frame));
+    if check7(e, frame) {
         return Heard::Error(0x02);
     }
-    if check8(frame) {
+    if check8(e, frame) {
         return Heard::Silence;
     }
-    if check9(frame) {
+    if check9(e, frame) {
         return Heard::Silence;
     }
-    if check10(frame) {
+    if check10(e, frame) {
         return Heard::Error(0x03);
     }
     Heard::Request {
-        entry: entry_of(code_of(frame)),
+        entry: e,
         option: flag_bit(frame, 7),
         start: fields_at(frame),
     }

@@ -92,14 +92,13 @@ pub fn load(t: Tag, image: &[u8], memory: &mut [u8]) -> Outcome
 {
     let whole = is_image(image.len());
     let fits = fits_image(memory.len(), image.len());
-    let headed = header_right(image, last_end(memory.len()));
     if !whole {
         return refuse(Refusal::Image, t);
     }
     if !fits {
         return refuse(Refusal::Memory, t);
     }
-    if !headed {
+    if !header_right(image, last_end(memory.len())) {
         return refuse(Refusal::Header, t);
     }
     let tag = reading::load(image, memory);

@@ -37,7 +37,7 @@ fn round_rule(r: Round) -> bool
 }
 
 // The error codes of document 01.
-fn is_code(c: u8) -> bool
+pub fn is_code(c: u8) -> bool
     ensures { λ r. ⌜ r ≡ isCode c ⌝ }
 {
     ((c == 0x02) | (c == 0x03)) | ((0x0F <= c) & (c <= 0x15))

@@ -1,6 +1,7 @@
 // From record and memory to an image.
 use super::rules::mark;
 use put::copy;
+use put::copy_all;
 use put::put_number;
 use record::Tag;
 use rights::registers::one_if;
@@ -104,6 +105,6 @@ pub fn save(t: Tag, memory: &[u8], image: &mut [u8]) -> usize
     ensures { λ r. ⌜ (r ≡ 64 + length (now (memory .entry))) × (now (image .exit) ≡ imageOf t (now (memory .entry))) ⌝ }
 {
     write_header(t, memory.len(), image);
-    copy(memory, &mut image[64..]);
+    copy_all(memory, &mut image[64..]);
     image.len()
 }

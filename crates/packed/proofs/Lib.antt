@@ -1,2 +1,3 @@
+mod InBytes
 mod Written
 pub mod Again

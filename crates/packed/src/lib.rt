@@ -1,11 +1,12 @@
 // "The record as 72 bytes", the form in which a host in C keeps it: from bytes to record, what bytes are a record, and from record to bytes.
-use host::rules::is_sound;
+use host::rules::is_code;
+use image::reading::read_areas;
 use image::reading::read_header;
 use image::rules::locks_right;
 use image::rules::mark;
 use image::rules::reserved_right;
 use image::writing::write_header;
-use put::byte_at;
+use put::byte_of;
 use put::copy;
 use record::Front;
 use record::Held;
@@ -17,12 +18,15 @@ use rights::Session;
 use rights::Vault;
 use rights::Verdict;
 use rights::registers::one_if;
+use rights::registers::possible_areas;
 ghost use mathlib.Core.Path.{_≡_};
 ghost use Prim.Native.Nat.{_+_, _*_};
-ghost use lib.ListN.{length};
+ghost use lib.ListN.{length, getD};
 ghost use Rattle.record.specs.declared.Held.the-variants.{Answer};
+ghost use Rattle.tag.specs.Rules.{offRule, togetherRule};
 ghost use Rattle.tag.specs.Image.{tagIn};
-ghost use Rattle.packed.specs.Bytes.{recordLength, stateIn, sessionIn, roundIn, heldIn, frontIn, vaultIn, recordIn, lastingRule, valueRule, unusedRule, recordRule, stateByte, sessionByte, openByte, slotByte, maskByte, heldByte, codeByte, passingOf, recordOf};
+ghost use Rattle.packed.specs.Bytes.{recordLength, stateIn, sessionIn, roundIn, heldIn, frontIn, vaultIn, recordIn, lastingRule, recordRule, stateByte, sessionByte, openByte, slotByte, maskByte, heldByte, codeByte, passingOf, recordOf};
+ghost use Rattle.packed.specs.Parts.{valuePart, roundPart, heldPart, passingPart, PassingLeft};
 
 // How many bytes a record has: `recordLength` of the definition, UISTERMO_RECORD of the header.
 pub const RECORD: usize = 72;
@@ -83,14 +87,15 @@ fn held_in(b: u8, code: u8) -> Held
 }
 
 fn read_front(bytes: &[u8], lasting: Front) -> Front
+    requires { ⌜ length (now bytes) ≡ recordLength ⌝ }
     requires { ⌜ lasting ≡ tagIn (now bytes) .front ⌝ }
     ensures { λ r. ⌜ r ≡ frontIn (now (bytes .entry)) ⌝ }
 {
-    let state = state_in(byte_at(bytes, 65));
-    let round = round_in(byte_at(bytes, 67), byte_at(bytes, 68), byte_at(bytes, 69));
-    let held = held_in(byte_at(bytes, 70), byte_at(bytes, 71));
+    let state = state_in(byte_of(bytes, 65));
+    let round = round_in(byte_of(bytes, 67), byte_of(bytes, 68), byte_of(bytes, 69));
+    let held = held_in(byte_of(bytes, 70), byte_of(bytes, 71));
     Front {
-        field: byte_at(bytes, 64) == 1,
+        field: byte_of(bytes, 64) == 1,
         state,
         round,
         held,
@@ -99,17 +104,19 @@ fn read_front(bytes: &[u8], lasting: Front) -> Front
 }
 
 fn read_vault(bytes: &[u8], lasting: Vault) -> Vault
+    requires { ⌜ length (now bytes) ≡ recordLength ⌝ }
     requires { ⌜ lasting ≡ tagIn (now bytes) .vault ⌝ }
     ensures { λ r. ⌜ r ≡ vaultIn (now (bytes .entry)) ⌝ }
 {
     let k = lasting.keys;
-    let session = session_in(byte_at(bytes, 66));
+    let session = session_in(byte_of(bytes, 66));
     let keys = Keys { session, ..k };
     Vault { keys, ..lasting }
 }
 
 // The record that bytes stand for, whether they keep the rules or not.
 pub fn read_record(bytes: &[u8]) -> Tag
+    requires { ⌜ length (now bytes) ≡ recordLength ⌝ }
     ensures { λ r. ⌜ r ≡ recordIn (now (bytes .entry)) ⌝ }
 {
     let t = read_header(bytes);
@@ -122,41 +129,112 @@ pub fn read_record(bytes: &[u8]) -> Tag
 
 // "a size mark that does not fit the lent memory, a reserved byte or lock bit that is not 0"
 fn lasting_right(bytes: &[u8], size: usize) -> bool
+    requires { ⌜ length (now bytes) ≡ recordLength ⌝ }
     ensures { λ r. ⌜ r ≡ lastingRule size (now (bytes .entry)) ⌝ }
 {
-    (byte_at(bytes, 0) == mark(size)) & (locks_right(bytes) & reserved_right(bytes))
+    (byte_of(bytes, 0) == mark(size)) & (locks_right(bytes) & reserved_right(bytes))
 }
 
-// "a value over those named"
+// "64 field (0, 1), 65 state (0 Ready, 1 Quiet, 2 Selected), 66 session (0 none, 1 to 4 for passwords 0 to 3)"
 fn values_right(bytes: &[u8]) -> bool
-    ensures { λ r. ⌜ r ≡ valueRule (now (bytes .entry)) ⌝ }
+    requires { ⌜ length (now bytes) ≡ recordLength ⌝ }
+    ensures { λ r. ⌜ r ≡ valuePart (now (bytes .entry)) ⌝ }
 {
-    let field = byte_at(bytes, 64);
-    let state = byte_at(bytes, 65);
-    let session = byte_at(bytes, 66);
-    let round = byte_at(bytes, 67);
-    let held = byte_at(bytes, 70);
-    ((field <= 1) & ((state <= 2) & (session <= 4))) & ((round <= 1) & (held <= 2))
+    let field = byte_of(bytes, 64);
+    let state = byte_of(bytes, 65);
+    let session = byte_of(bytes, 66);
+    (field <= 1) & ((state <= 2) & (session <= 4))
 }
 
-// "a slot or mask without a round, a code without a held error"
-fn unused_right(bytes: &[u8]) -> bool
-    ensures { λ r. ⌜ r ≡ unusedRule (now (bytes .entry)) ⌝ }
+// A round that is "0 none, 1 open", no "slot or mask without a round", and "A round has slot 0 to 15 and mask length at most 60"
+fn round_right(bytes: &[u8]) -> bool
+    requires { ⌜ length (now bytes) ≡ recordLength ⌝ }
+    ensures { λ r. ⌜ r ≡ roundPart (now (bytes .entry)) ⌝ }
 {
-    let round = byte_at(bytes, 67);
-    let slot = byte_at(bytes, 68);
-    let mask = byte_at(bytes, 69);
-    let held = byte_at(bytes, 70);
-    let code = byte_at(bytes, 71);
-    ((round == 1) | ((slot == 0) & (mask == 0))) & ((held == 2) | (code == 0))
+    let round = byte_of(bytes, 67);
+    let slot = byte_of(bytes, 68);
+    let mask = byte_of(bytes, 69);
+    if round == 0 {
+        return (slot == 0) & (mask == 0);
+    }
+    if round == 1 {
+        return (slot <= 15) & (mask <= 60);
+    }
+    false
+}
+
+// A held answer that is "0 none, 1 success, 2 error", no "code without a held error", and "a held answer is success or one error code of this page"
+fn held_right(bytes: &[u8]) -> bool
+    requires { ⌜ length (now bytes) ≡ recordLength ⌝ }
+    ensures { λ r. ⌜ r ≡ heldPart (now (bytes .entry)) ⌝ }
+{
+    let held = byte_of(bytes, 70);
+    let code = byte_of(bytes, 71);
+    if held == 2 {
+        return is_code(code);
+    }
+    (held <= 1) & (code == 0)
+}
+
+// "A round never stands with a held answer nor in Quiet."
+fn together_right(bytes: &[u8]) -> bool
+    requires { ⌜ length (now bytes) ≡ recordLength ⌝ }
+    ensures { λ r. ⌜ r ≡ togetherRule (frontIn (now (bytes .entry))) ⌝ }
+{
+    if byte_of(bytes, 67) == 1 {
+        return (byte_of(bytes, 70) == 0) & !(byte_of(bytes, 65) == 1);
+    }
+    true
+}
+
+// "With the field off nothing passing is set and the state is Ready."
+fn off_right(bytes: &[u8]) -> bool
+    requires { ⌜ length (now bytes) ≡ recordLength ⌝ }
+    ensures { λ r. ⌜ r ≡ offRule (frontIn (now (bytes .entry))) (sessionIn (getD (now (bytes .entry)) 66 0)) ⌝ }
+{
+    if byte_of(bytes, 64) == 1 {
+        return true;
+    }
+    let state = byte_of(bytes, 65);
+    let session = byte_of(bytes, 66);
+    let round = byte_of(bytes, 67);
+    let held = byte_of(bytes, 70);
+    ((state == 0) & (session == 0)) & (!(round == 1) & (held == 0))
+}
+
+// Bytes 64 to 71 as they lie: "a value over those named, a slot or mask without a round, a code without a held error", and the record
+// rules of 01 but those of the areas. No record is made of them first, and each test leads to its own answer, so that a compiler makes a jump of it.
+fn passing_right(bytes: &[u8]) -> bool
+    requires { ⌜ length (now bytes) ≡ recordLength ⌝ }
+    ensures { λ r. ⌜ r ≡ passingPart (now (bytes .entry)) ⌝ }
+{
+    if !values_right(bytes) {
+        return false;
+    }
+    if !round_right(bytes) {
+        return false;
+    }
+    if !held_right(bytes) {
+        return false;
+    }
+    if !together_right(bytes) {
+        return false;
+    }
+    off_right(bytes)
 }
 
 // Whether bytes are a record beside a memory of so many bytes, whose last end is e.
 pub fn is_record(bytes: &[u8], size: usize, e: u8) -> bool
+    requires { ⌜ length (now bytes) ≡ recordLength ⌝ }
     ensures { λ r. ⌜ r ≡ recordRule size (8 * (e + 1)) (now (bytes .entry)) ⌝ }
 {
-    let t = read_record(bytes);
-    (lasting_right(bytes, size) & (values_right(bytes) & unused_right(bytes))) & is_sound(e, t)
+    if !lasting_right(bytes, size) {
+        return false;
+    }
+    if !possible_areas(e, read_areas(bytes)) {
+        return false;
+    }
+    passing_right(bytes)
 }
 
 fn state_byte(s: State) -> u8
@@ -267,12 +345,20 @@ fn passing(t: Tag) -> [u8; 8]
     ]
 }
 
+// The passing parts of a tag fill bytes 64 to 71; the lasting ones stay.
+pub fn write_passing(t: Tag, bytes: &mut [u8])
+    requires { ⌜ length (now bytes) ≡ recordLength ⌝ }
+    ensures { λ _. ⌜ PassingLeft t (now (bytes .entry)) (now (bytes .exit)) ⌝ }
+{
+    let after = passing(t);
+    copy(&after, &mut bytes[64..]);
+}
+
 // The record of a tag beside a memory of so many bytes fills the bytes.
 pub fn write_record(t: Tag, size: usize, bytes: &mut [u8])
     requires { ⌜ length (now bytes) ≡ recordLength ⌝ }
     ensures { λ _. ⌜ now (bytes .exit) ≡ recordOf size t ⌝ }
 {
-    let after = passing(t);
     write_header(t, size, bytes);
-    copy(&after, &mut bytes[64..]);
+    write_passing(t, bytes);
 }

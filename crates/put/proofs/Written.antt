@@ -9,7 +9,7 @@ use native.Mathlib.Numerals.{add-one}
 use lib.ListN.{length, take, drop, set, getD, length-append, length-drop, length-set, take-append-drop, drop-of-length-le}
 use Rattle.put.specs.Put.{Put}
 use lib.Seq.{length-take-le, take-at, drop-at, drop-drop, take-suc-set, drop-set-lt, drop-cons}
-use Rattle.put.proofs.Lists.{put-tail, tail-room}
+use Rattle.put.proofs.Lists.{tail, put-tail, tail-room}
 
 -- the first `at` bytes of L stand in out, which is out₀ after them; rest is what is left of L
 pub record Written (L rest out₀ out : List ℕ) (at : ℕ) : Type 0 where
@@ -36,18 +36,21 @@ module _ {L v rest out₀ out : List ℕ} {at : ℕ} (x : Next L v rest out₀ o
   room = tail-room out at (length v) sum
 
   -- v goes to the start of what is lent as `&mut out[at..]`
-  pub more : {ys : List ℕ} {k : ℕ} → Put v (take (length out - at) (drop at out)) ys k → Written L rest out₀ (take at out ++ (ys ++ drop (length out - at) (drop at out))) (at + k)
+  pub more : {ys : List ℕ} {k : ℕ} → Put v (take (length out - at) (drop at out)) ys k
+      → Written L rest out₀ (take at out ++ (ys ++ drop (length out - at) (drop at out))) (at + k)
   more {ys} e =
       let w = x .written in
       let p = take at out ++ v in
       let t : length (take at out) ≡ at = length-take-le at out (w .within) in
       let lp : length p ≡ at + length v = simp length-append (omega (arith, t)) in
-      let q : take at out ++ (ys ++ drop (length out - at) (drop at out)) ≡ p ++ drop (at + length v) out = put-tail out ys v at (e .is) ∙ sym (append-assoc (take at out) v (drop (at + length v) out)) in
+      let q : take at out ++ (ys ++ drop (length out - at) (drop at out)) ≡ p ++ drop (at + length v) out = put-tail out ys v at (e .is) ∙ sym
+      (append-assoc (take at out) v (drop (at + length v) out)) in
       let lq : length (p ++ drop (at + length v) out) ≡ length out = simp (length-append, length-drop) (omega (arith, sum, t)) in
       rw (e .count, q)
       (record {
         split = rw (take-at p (drop (at + length v) out) (at + length v) lp, append-assoc) (w .split);
-        after = drop-at p (drop (at + length v) out) (at + length v) lp ∙ sym (drop-drop (length v) at out) ∙ ap (λ (l : List ℕ). drop (length v) l) (w .after) ∙ drop-drop (length v) at out₀;
+        after = drop-at p (drop (at + length v) out) (at + length v) lp ∙ sym (drop-drop (length v) at out) ∙ ap (λ (l : List ℕ). drop (length v) l)
+            (w .after) ∙ drop-drop (length v) at out₀;
         same = lq ∙ w .same;
         within = omega (arith, lq, sum);
         fits = w .fits;
@@ -79,3 +82,31 @@ byte {L} {out₀} {out} {at} h w = record { written = rw (drop-cons L at 0 h, �
 -- and at the end nothing is left
 pub last : {L out₀ out : List ℕ} {at : ℕ} → length L ≤ at → Written L (drop at L) out₀ out at → Put L out₀ out at
 last {L} {out₀} {out} {at} h w = whole (rw (drop-of-length-le L h) at w)
+
+-- n bytes come next, which are a, and go to the start of what is lent as `&mut out[at..]`
+pub put-part : {L out₀ out a ys : List ℕ} {at k : ℕ} (n : ℕ) → Written L (drop at L) out₀ out at → a ≡ take n (drop at L) → at + n ≤ length L
+    → Put a (take (length out - at) (drop at out)) ys k
+    → Written L (drop (at + n) L) out₀ (take at out ++ (ys ++ drop (length out - at) (drop at out))) (at + n)
+put-part {L} {out₀} {out} {a} {ys} {at} {k} n w f h p =
+    let l : n ≡ length a = sym (rw f (length-take-le n (drop at L) (simp length-drop (omega arith)))) in
+    let e : a ++ drop (at + n) L ≡ drop at L = rw (f, ← drop-drop n at L) (take-append-drop n (drop at L)) in
+    let x : Next L a (drop (at + n) L) out₀ out at = record { written = rw e w } in
+    let c : k ≡ n = p .count ∙ sym l in
+    rw c at (more x p)
+
+-- room for them
+pub part-room : {L out₀ out a : List ℕ} {at : ℕ} (n : ℕ) → Written L (drop at L) out₀ out at → a ≡ take n (drop at L)
+    → length a ≤ length (take (length out - at) (drop at out))
+part-room {L} {out₀} {out} {a} {at} n w f =
+    let e : a ++ drop (at + n) L ≡ drop at L = rw (f, ← drop-drop n at L) (take-append-drop n (drop at L)) in
+    let x : Next L a (drop (at + n) L) out₀ out at = record { written = rw e w } in
+    room x
+
+-- all that is left
+pub left : {L out₀ out : List ℕ} {at : ℕ} → Written L (drop at L) out₀ out at → Next L (take (length L - at) (drop at L)) [] out₀ out at
+left {L} {out₀} {out} {at} w = record { written = rw (tail L at, append-nil (drop at L)) w }
+
+pub put-last : {L out₀ out ys : List ℕ} {at k : ℕ} → Written L (drop at L) out₀ out at
+    → Put (take (length L - at) (drop at L)) (take (length out - at) (drop at out)) ys k
+    → Put L out₀ (take at out ++ (ys ++ drop (length out - at) (drop at out))) (at + k)
+put-last w p = whole (more (left w) p)

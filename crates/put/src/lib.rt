@@ -1,8 +1,8 @@
 // Bytes in lent slices: what a function that writes into lent room promises, numbers of several bytes, lowest byte first,
-// and a copy. It knows no tag.
+// and copies. It knows no tag.
 ghost use mathlib.Core.Path.{_≡_};
-ghost use Prim.Native.Nat.{_+_, _*_, _≤_};
-ghost use lib.ListN.{length, getD};
+ghost use Prim.Native.Nat.{_+_, _*_, _≤_, _<_};
+ghost use lib.ListN.{length, getD, take};
 ghost use Rattle.put.specs.Put.{Put};
 ghost use Rattle.put.specs.Number.{numberAt, bytesOf};
 
@@ -14,6 +14,14 @@ pub fn byte_at(s: &[u8], at: usize) -> u8
         return s[at];
     }
     0
+}
+
+// The byte at a place that is there.
+pub fn byte_of(s: &[u8], at: usize) -> u8
+    requires { ⌜ at < length (now s) ⌝ }
+    ensures { λ r. ⌜ r ≡ getD (now (s .entry)) at 0 ⌝ }
+{
+    s[at]
 }
 
 fn join8(low: u8, high: u8) -> u16
@@ -58,6 +66,28 @@ pub fn number8(s: &[u8], at: u8) -> u64
     join32(number4(s, i), number4(s, i + 4))
 }
 
+// The same of places that are there: no place is tested, so that a compiler makes one load of it.
+fn pair_of(s: &[u8], at: usize) -> u16
+    requires { ⌜ at + 1 < length (now s) ⌝ }
+    ensures { λ r. ⌜ r ≡ numberAt 2 (now (s .entry)) at ⌝ }
+{
+    join8(byte_of(s, at), byte_of(s, at + 1))
+}
+
+fn four_of(s: &[u8], at: usize) -> u32
+    requires { ⌜ at + 3 < length (now s) ⌝ }
+    ensures { λ r. ⌜ r ≡ numberAt 4 (now (s .entry)) at ⌝ }
+{
+    join16(pair_of(s, at), pair_of(s, at + 2))
+}
+
+pub fn eight_of(s: &[u8], at: usize) -> u64
+    requires { ⌜ at + 7 < length (now s) ⌝ }
+    ensures { λ r. ⌜ r ≡ numberAt 8 (now (s .entry)) at ⌝ }
+{
+    join32(four_of(s, at), four_of(s, at + 4))
+}
+
 // The lowest bytes of a number, as many as the width says, go to the start of out.
 pub fn put_number(n: u64, width: usize, out: &mut [u8]) -> usize
     requires { ⌜ width ≤ length (now out) ⌝ }
@@ -84,4 +114,61 @@ pub fn copy(src: &[u8], out: &mut [u8]) -> usize
         i += 1;
     }
     i
+}
+
+// The first sixteen bytes, by value: a compiler makes one load of them.
+fn sixteen(s: &[u8]) -> [u8; 16]
+    requires { ⌜ 16 ≤ length (now s) ⌝ }
+    ensures { λ r. ⌜ r ≡ take 16 (now (s .entry)) ⌝ }
+{
+    [
+        s[0],
+        s[1],
+        s[2],
+        s[3],
+        s[4],
+        s[5],
+        s[6],
+        s[7],
+        s[8],
+        s[9],
+        s[10],
+        s[11],
+        s[12],
+        s[13],
+        s[14],
+        s[15],
+    ]
+}
+
+// A part of 512 bytes, in sixteens.
+fn copy_part(src: &[u8], out: &mut [u8]) -> usize
+    requires { ⌜ length (now src) ≡ 512 ⌝ }
+    requires { ⌜ 512 ≤ length (now out) ⌝ }
+    ensures { λ r. ⌜ Put (now (src .entry)) (now (out .entry)) (now (out .exit)) r ⌝ }
+{
+    let mut j: usize = 0;
+    while j < 32 {
+        let at = 16 * j;
+        let a = sixteen(&src[at..]);
+        copy(&a, &mut out[at..]);
+        j += 1;
+    }
+    512
+}
+
+// The same as copy, for many bytes. A compiler cannot tell whether the slices overlap, so of a loop over bytes it makes no wide copy; sixteen
+// bytes by value are one.
+pub fn copy_all(src: &[u8], out: &mut [u8]) -> usize
+    requires { ⌜ length (now src) ≤ length (now out) ⌝ }
+    ensures { λ r. ⌜ Put (now (src .entry)) (now (out .entry)) (now (out .exit)) r ⌝ }
+{
+    let mut i: usize = 0;
+    while 512 <= src.len() - i {
+        let end = i + 512;
+        copy_part(&src[i..end], &mut out[i..]);
+        i = end;
+    }
+    copy(&src[i..], &mut out[i..]);
+    src.len()
 }

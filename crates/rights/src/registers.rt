@@ -139,10 +139,18 @@ pub fn written_verdict(w: Written) -> Verdict
     }
 }
 
+// "each ENDAi is at most E; if ENDAi is below E then ENDA(i+1) is above ENDAi; if ENDAi is E then all later ends are E". Each test leads to
+// its own answer, so that a compiler makes a jump of it and keeps no truth values.
 fn end_rules(e: u8, x: u8, y: u8) -> bool
     ensures { λ r. ⌜ r ≡ (endRule e y && pairRule e x y) ⌝ }
 {
-    (y <= e) & ((!(x < e) | (x < y)) & (!(x == e) | (y == e)))
+    if e < y {
+        return false;
+    }
+    if x < e {
+        return x < y;
+    }
+    !(x == e) | (y == e)
 }
 
 // The record rules for registers and ends, of a tag whose last end is e.

@@ -24,7 +24,7 @@ use Rattle.record.specs.declared.Held.{Held}
 use Rattle.record.specs.Update.{withFront, withVault, withKeys, passingCleared, powered}
 use Rattle.tag.specs.declared.Command.{Command}
 use Rattle.tag.specs.declared.Entry.{Entry}
-use Rattle.tag.specs.Work.{silence, verdict, body, Unit, register, password, says, writes, closes, work, applyToTag, applyToMemory, perform}
+use Rattle.tag.specs.Work.{Answer, silence, verdict, body, Unit, register, password, says, writes, closes, work, applyToTag, applyToMemory, perform}
 use Rattle.tag.specs.Blocks.{granted, blockUnits}
 use Rattle.tag.specs.Commands.{frontAfter, actOf, isHolding, requestOf}
 use Rattle.tag.specs.Rules.{blocksOf}
@@ -34,10 +34,17 @@ use Rattle.step.specs.declared.Said.{Said}
 use Rattle.step.specs.Gives.{Gives, Does, concluded}
 
 -- a body is answered at once, held or not
-pub shown : (hold : Bool) (t : Tag) (b : List ℕ) {x x′ : List ℕ} {n : ℕ} → Put (lineOf (body b)) x x′ n → Does hold t (says (body b)) x x′ (record { length = n; tag = t })
+pub shown : (hold : Bool) (t : Tag) (b : List ℕ) {x x′ : List ℕ} {n : ℕ} → Put (lineOf (body b)) x x′ n
+    → Does hold t (says (body b)) x x′ (record { length = n; tag = t })
 unfolding perform
 shown true t b p m = record { result = rw (p .count); memory = refl; room = p .is }
 shown false t b p m = record { result = rw (p .count); memory = refl; room = p .is }
+
+-- an answer that is given at once
+pub told : (t : Tag) (a : Answer) {x x′ : List ℕ} {n : ℕ} → Put (lineOf a) x x′ n → (m : List ℕ)
+    → Gives (concluded false (perform t m (says a))) x m x′ (record { length = n; tag = t })
+unfolding perform
+told t a p m = record { result = rw (p .count); memory = refl; room = p .is }
 
 -- silence is neither held nor answered
 pub quiet : (hold : Bool) (t : Tag) (m : List ℕ) {x : List ℕ} → Gives (concluded hold (perform t m (says silence))) x m x (record { length = 0; tag = t })
@@ -47,7 +54,8 @@ quiet false t m = record { result = refl; memory = refl; room = refl }
 
 module _ (hold : Bool) (t : Tag) {x x′ : List ℕ} {r : Said} where
   -- a write that touches the record alone
-  pub written : (v : Verdict) (us : List Unit) → ((m : List ℕ) → applyToMemory us m ≡ m) → Does hold (afterVerdict v t (applyToTag us t)) (says (verdict v)) x x′ r → Does hold t (granted v (writes us)) x x′ r
+  pub written : (v : Verdict) (us : List Unit) → ((m : List ℕ) → applyToMemory us m ≡ m)
+      → Does hold (afterVerdict v t (applyToTag us t)) (says (verdict v)) x x′ r → Does hold t (granted v (writes us)) x x′ r
   unfolding perform
   written Success us e d m = rw (e m) (d m)
   written (Error c) us e d m = d m
@@ -60,7 +68,8 @@ module _ (hold : Bool) (t : Tag) {x x′ : List ℕ} {r : Said} where
       written v (password n w ∷ []) (λ m. refl)
       (rw (change-is, verdict-over (λ (k : Keys). withVault t (withKeys (t .vault) k)) v (t .vault .keys) (withPassword (t .vault .keys) n w)) at d)
 
-  pub register-written : (e address value : ℕ) → Does hold (withVault t (registerWriteOf e (t .vault) address value .vault)) (says (verdict (writtenVerdict (registerWriteOf e (t .vault) address value .answer)))) x x′ r → Does hold t (granted (writtenVerdict (writtenOf e (viewOf (t .vault)) address value)) (writes (register address value ∷ []))) x x′ r
+  pub register-written : (e address value : ℕ)
+      → Does hold (withVault t (registerWriteOf e (t .vault) address value .vault)) (says (verdict (writtenVerdict (registerWriteOf e (t .vault) address value .answer)))) x x′ r → Does hold t (granted (writtenVerdict (writtenOf e (viewOf (t .vault)) address value)) (writes (register address value ∷ []))) x x′ r
   unfolding applyToTag applyToMemory
   register-written e address value d =
       let v = writtenVerdict (writtenOf e (viewOf (t .vault)) address value) in
@@ -68,31 +77,39 @@ module _ (hold : Bool) (t : Tag) {x x′ : List ℕ} {r : Said} where
       (rw (write-is, verdict-over (λ (u : Vault). withVault t u) v (t .vault) (withRegister (t .vault) address value)) at d)
 
 -- and blocks, which touch the memory alone
-pub blocks-written : (hold : Bool) (t : Tag) (first n : ℕ) (bytes m m′ : List ℕ) {x x′ : List ℕ} {r : Said} → m′ ≡ applyToMemory (blockUnits first n bytes) m → Does hold t (says (verdict Success)) x x′ r → Gives (concluded hold (perform t m (writes (blockUnits first n bytes)))) x m′ x′ r
+pub blocks-written : (hold : Bool) (t : Tag) (first n : ℕ) (bytes m m′ : List ℕ) {x x′ : List ℕ} {r : Said}
+    → m′ ≡ applyToMemory (blockUnits first n bytes) m → Does hold t (says (verdict Success)) x x′ r
+    → Gives (concluded hold (perform t m (writes (blockUnits first n bytes)))) x m′ x′ r
 unfolding perform
 blocks-written hold t first n bytes m m′ e d = rw (blocks-leave first n bytes t, ← e) (d m′)
 
 -- a request by its command
-request-is : (f : Front) (v : View) (blocks : ℕ) (e : Entry) (option : Bool) (fields : List ℕ) {c : Command} → e .command ≡ c → requestOf f v blocks e option fields ≡ record { front = frontAfter c f; hold = option && isHolding (e .option); act = actOf c f v blocks e option fields }
+request-is : (f : Front) (v : View) (blocks : ℕ) (e : Entry) (option : Bool) (fields : List ℕ) {c : Command} → e .command ≡ c
+    → requestOf f v blocks e option fields ≡ record { front = frontAfter c f; hold = option && isHolding (e .option); act = actOf c f v blocks e option fields }
 unfolding requestOf
 request-is f v blocks e option fields h =
     ap (λ (c : Command). record { front = frontAfter c f; hold = option && isHolding (e .option); act = actOf c f v blocks e option fields }) h
 
-pub request-gives : (t : Tag) (m : List ℕ) (e : Entry) (option hold : Bool) (fields : List ℕ) {c : Command} {x m′ x′ : List ℕ} {r : Said} → e .command ≡ c → hold ≡ (option && isHolding (e .option)) → Gives (concluded hold (perform (withFront t (frontAfter c (t .front))) m (actOf c (t .front) (viewOf (t .vault)) (blocksOf m) e option fields))) x m′ x′ r → Gives (performed t m (requestOf (t .front) (viewOf (t .vault)) (blocksOf m) e option fields)) x m′ x′ r
+pub request-gives : (t : Tag) (m : List ℕ) (e : Entry) (option hold : Bool) (fields : List ℕ) {c : Command} {x m′ x′ : List ℕ} {r : Said} → e .command ≡ c
+    → hold ≡ (option && isHolding (e .option))
+    → Gives (concluded hold (perform (withFront t (frontAfter c (t .front))) m (actOf c (t .front) (viewOf (t .vault)) (blocksOf m) e option fields))) x m′ x′ r → Gives (performed t m (requestOf (t .front) (viewOf (t .vault)) (blocksOf m) e option fields)) x m′ x′ r
 request-gives t m e option hold fields h k g = rw (request-is (t .front) (viewOf (t .vault)) (blocksOf m) e option fields h, ← k) g
 
 -- ---- the end of a frame, by what is held and by the round
 
 module _ (t : Tag) (m : List ℕ) {x m′ x′ : List ℕ} {s : Said} where
-  pub round-gives : {r : Round} → t .front .round ≡ r → Gives (performed t m (roundEnds r (t .front))) x m′ x′ s → Gives (performed t m (roundEnds (t .front .round) (t .front))) x m′ x′ s
+  pub round-gives : {r : Round} → t .front .round ≡ r → Gives (performed t m (roundEnds r (t .front))) x m′ x′ s
+      → Gives (performed t m (roundEnds (t .front .round) (t .front))) x m′ x′ s
   round-gives h g = subst (λ (r : Round). Gives (performed t m (roundEnds r (t .front))) x m′ x′ s) (sym h) g
 
-  pub held-gives : {h : Held} → t .front .held ≡ h → Gives (performed t m (frameEnds h (t .front))) x m′ x′ s → Gives (performed t m (frameEnds (t .front .held) (t .front))) x m′ x′ s
+  pub held-gives : {h : Held} → t .front .held ≡ h → Gives (performed t m (frameEnds h (t .front))) x m′ x′ s
+      → Gives (performed t m (frameEnds (t .front .held) (t .front))) x m′ x′ s
   held-gives h g = subst (λ (k : Held). Gives (performed t m (frameEnds k (t .front))) x m′ x′ s) (sym h) g
 
 -- ---- the field
 
-on-by : (b : Bool) (t : Tag) (m x : List ℕ) → Gives (performed t m (if b then work (t .front) (says silence) else work (passingCleared (t .front) true) closes)) x m x (record { length = 0; tag = if b then t else powered t true })
+on-by : (b : Bool) (t : Tag) (m x : List ℕ)
+    → Gives (performed t m (if b then work (t .front) (says silence) else work (passingCleared (t .front) true) closes)) x m x (record { length = 0; tag = if b then t else powered t true })
 unfolding perform
 on-by true t m x = record { result = refl; memory = refl; room = refl }
 on-by false t m x = record { result = refl; memory = refl; room = refl }

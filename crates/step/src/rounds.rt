@@ -3,31 +3,27 @@ use super::Said;
 use super::answers::put_inventory;
 use super::answers::settle;
 use frame::inventory;
+use record::Front;
 use record::Held;
 use record::Round;
 use record::Tag;
-ghost use mathlib.Core.Bool.{false};
 ghost use mathlib.Core.List.{List};
 ghost use Prim.Native.Nat.{ℕ, _≤_};
 ghost use lib.ListN.{length};
-ghost use Rattle.tag.specs.Work.{says};
+ghost use Rattle.put.specs.Put.{Put};
 ghost use Rattle.tag.specs.Inventory.{inSlot, inventoryOf, nextSlot};
-ghost use Rattle.tag.specs.Step.{performed, roundEnds, frameEnds};
-ghost use Rattle.step.specs.Gives.{Gives, Does};
+ghost use Rattle.tag.specs.Step.{lineOf, performed, roundEnds, frameEnds};
+ghost use Rattle.step.specs.Gives.{Gives};
 
-// The answer of a tag whose slot is that of the round, or silence.
-fn in_slot(t: Tag, slot: u8, mask: u8, room: &mut [u8]) -> Said
+// The answer of a tag whose slot is that of the round, or silence: its length. Only the front is passed, so that no record is copied.
+fn in_slot(f: Front, slot: u8, mask: u8, room: &mut [u8]) -> usize
     requires { ⌜ 12 ≤ length (now room) ⌝ }
-    ensures { λ s. ⌜ Does false t (says (inSlot (t .front) slot mask)) (now (room .entry)) (now (room .exit)) s ⌝ }
+    ensures { λ n. ⌜ Put (lineOf (inSlot f slot mask)) (now (room .entry)) (now (room .exit)) n ⌝ }
 {
-    let f = t.front;
     if inventory::own_slot(f, mask) == slot {
-        return Said {
-            length: put_inventory(f, room),
-            tag: t,
-        };
+        return put_inventory(f, room);
     }
-    Said { length: 0, tag: t }
+    0
 }
 
 // "Inventory goes to its own section."
@@ -47,7 +43,9 @@ pub fn take_inventory(t: Tag, frame: &[u8], room: &mut [u8]) -> Said
     }
     let mask = inventory::mask_length(frame);
     let front = record::set_round(f, Round::Open { slot: 0, mask });
-    in_slot(record::set_front(t, front), 0, mask, room)
+    let tag = record::set_front(t, front);
+    let length = in_slot(front, 0, mask, room);
+    Said { length, tag }
 }
 
 // "each end of frame moves one slot on; an end of frame in slot 15 closes the round"
@@ -59,7 +57,9 @@ fn move_on(t: Tag, slot: u8, mask: u8, room: &mut [u8]) -> Said
     if slot < 15 {
         let next = slot + 1;
         let front = record::set_round(f, Round::Open { slot: next, mask });
-        return in_slot(record::set_front(t, front), next, mask, room);
+        let tag = record::set_front(t, front);
+        let length = in_slot(front, next, mask, room);
+        return Said { length, tag };
     }
     let front = record::set_round(f, Round::None);
     Said {

@@ -1,34 +1,135 @@
--- `cabi::uistermo_event` meets its contract: each number in its order, a kind that is none, and what the host's call promised.
+-- `cabi::uistermo_event` meets its contract: each number in its order, a kind that is none, and what `step` promised.
 -- Assumes nothing.
-use mathlib.Core.Path.{refl, sym, _∙_}
+use mathlib.Core.Path.{_≡_, refl, sym, _∙_}
+use mathlib.Core.Bool.{true}
 use borrow.Author.Tests.{lt-ltb, le-ltb, not-false}
 use Rattle.record.specs.declared.Refusal.the-variants.{None, Memory, Room, Record}
 use Rattle.host.proofs.Lent.{blocks-by-end}
+use Rattle.packed.specs.Bytes.{isRecord}
 use Rattle.cabi.specs.Calls.{eventStays, eventLeft}
-use Rattle.cabi.proofs.Left.{event-by, event-taken}
+use Rattle.cabi.proofs.Left.{event-by, event-taken, passing-taken}
 use borrow.Author.Needs.{needs}
 use Rattle.cabi.proofs.uistermo_event.Statement.{statement}
 use Rattle.cabi.proofs.uistermo_event.Tie as tie
 
-pub uistermo-event-spec : {M : Type 1} → statement M
+-- 1: the memory
+returns : tie.Need-returns
 unfolding eventLeft
+returns c =
+    let at = c .before .before .before .before .before .before .args in
+    event-by (eventStays Memory (at .bytes .now) (at .memory .now) (at .room .now))
+    (rw (← c .before .before .is-memory .ensures, c .before .if1 .taken))
+    (c .refused .ensures) refl refl refl
+
+-- 2: the room
+returns-2 : tie.Need-returns-2
+unfolding eventLeft
+returns-2 c =
+    let at = c .before .before .before .before .before .before .before .args in
+    event-by (eventStays Room (at .bytes .now) (at .memory .now) (at .room .now))
+    (rw (← c .before .before .before .is-memory .ensures, c .before .before .if1 .left, lt-ltb _ _ (c .before .if2 .taken)))
+    (c .refused2 .ensures) refl refl refl
+
+-- 3: the record
+returns-3 : tie.Need-returns-3
+unfolding eventLeft
+returns-3 c =
+    let at = c .before .before .before .before .before .before .before .before .before .before .before .before .args in
+    let one = c .before .before in
+    let lent = one .before .before .before .before .before .if1 .left in
+    let blocks = blocks-by-end (at .memory .now) (sym (one .before .before .before .before .before .before .is-memory .ensures) ∙ not-false _ lent) in
+    event-by (eventStays Record (at .bytes .now) (at .memory .now) (at .room .now))
+    (rw (
+      ← one .before .before .before .before .before .before .is-memory .ensures,
+      lent,
+      le-ltb _ _ (one .before .before .before .before .if2 .left),
+      blocks,
+      ← one .before .last-end .ensures,
+      ← one .is-record .ensures,
+      c .before .if3 .taken,
+    ))
+    (c .refused3 .ensures) refl refl refl
+
+-- none of these, and no event
+returns-4 : tie.Need-returns-4
+unfolding eventLeft
+returns-4 c =
+    let at = c .before .before .before .before .before .before .before .before .before .before .before .before .args in
+    let one = c .before .before in
+    let lent = one .before .before .before .before .before .if1 .left in
+    let blocks = blocks-by-end (at .memory .now) (sym (one .before .before .before .before .before .before .is-memory .ensures) ∙ not-false _ lent) in
+    event-by (eventStays None (at .bytes .now) (at .memory .now) (at .room .now))
+    (rw (
+      ← one .before .before .before .before .before .before .is-memory .ensures,
+      lent,
+      le-ltb _ _ (one .before .before .before .before .if2 .left),
+      blocks,
+      ← one .before .last-end .ensures,
+      ← one .is-record .ensures,
+      c .before .if3 .left,
+      lt-ltb _ _ (c .if4 .taken),
+    ))
+    refl refl refl refl
+
+-- what was tested is what `step` asks for
+step-requires : tie.Need-step-requires
+step-requires c κs =
+    let room = c .before .before .before .before .before .before .before .before .before .before .before .before in
+    (sym (room .before .before .is-memory .ensures) ∙ not-false _ (room .before .if1 .left), room .if2 .left)
+
+-- a frame: the whole record is written
+returns-5 : tie.Need-returns-5
+returns-5 c =
+    let done = c .before .before .before .before .before .before .before .before in
+    let read = done .before .before .before .before in
+    let one = read .before .before .before .before .before in
+    let at = one .before .before .before .before .before .before .before .before .before .before .args in
+    let memory = sym (one .before .before .before .before .before .before .is-memory .ensures) ∙ not-false _
+    (one .before .before .before .before .before .if1 .left) in
+    let blocks = blocks-by-end (at .memory .now) memory in
+    let right : isRecord (at .memory .now) (at .bytes .now) ≡ true = rw (blocks, ← one .before .last-end .ensures)
+    (sym (one .is-record .ensures) ∙ not-false _ (read .before .before .before .before .if3 .left)) in
+    event-taken (done .step .result) memory (one .before .before .before .before .if2 .left) right (le-ltb _ _ (read .before .before .before .if4 .left))
+    (rw (← read .read-record .ensures, ← done .before .before .before .kind-in .ensures) (done .step .ensures)) (c .write-record .ensures)
+
+-- no frame: its passing parts
+returns-6 : tie.Need-returns-6
+returns-6 c =
+    let done = c .before .before .before .before .before .before .before .before in
+    let read = done .before .before .before .before in
+    let one = read .before .before .before .before .before in
+    let at = one .before .before .before .before .before .before .before .before .before .before .args in
+    let memory = sym (one .before .before .before .before .before .before .is-memory .ensures) ∙ not-false _
+    (one .before .before .before .before .before .if1 .left) in
+    let blocks = blocks-by-end (at .memory .now) memory in
+    let right : isRecord (at .memory .now) (at .bytes .now) ≡ true = rw (blocks, ← one .before .last-end .ensures)
+    (sym (one .is-record .ensures) ∙ not-false _ (read .before .before .before .before .if3 .left)) in
+    passing-taken (done .step .result) memory (one .before .before .before .before .if2 .left) right (le-ltb _ _ (read .before .before .before .if4 .left))
+    (c .before .before .if5 .left)
+    (rw (← read .read-record .ensures, ← done .before .before .before .kind-in .ensures) (done .step .ensures)) (c .write-passing .ensures)
+
+pub uistermo-event-spec : {M : Type 1} → statement M
 uistermo-event-spec =
     tie.close
     (tie.spec
     (λ c κs. search needs)
     (λ c κs. search needs)
-    (λ c. event-by (eventStays Memory (c .before .before .before .before .before .before .args .bytes .now) (c .before .before .before .before .before .before .args .memory .now) (c .before .before .before .before .before .before .args .room .now)) (rw (← c .before .before .is-memory .ensures, c .before .if1 .taken)) (c .refused .ensures) refl refl refl)
+    returns
     (λ c κs. search needs)
-    (λ c. event-by (eventStays Room (c .before .before .before .before .before .before .before .args .bytes .now) (c .before .before .before .before .before .before .before .args .memory .now) (c .before .before .before .before .before .before .before .args .room .now)) (rw (← c .before .before .before .is-memory .ensures, c .before .before .if1 .left, lt-ltb _ _ (c .before .if2 .taken))) (c .refused2 .ensures) refl refl refl)
-    (λ c κs. search needs)
-    (λ c κs. search needs)
-    (λ c κs. search needs)
-    (λ c. event-by (eventStays Record (c .before .before .before .before .before .before .before .before .before .before .before .before .args .bytes .now) (c .before .before .before .before .before .before .before .before .before .before .before .before .args .memory .now) (c .before .before .before .before .before .before .before .before .before .before .before .before .args .room .now)) (rw (← c .before .before .before .before .before .before .before .before .is-memory .ensures, c .before .before .before .before .before .before .before .if1 .left, le-ltb _ _ (c .before .before .before .before .before .before .if2 .left), blocks-by-end (c .before .before .before .before .before .before .before .before .before .before .before .before .args .memory .now) (sym (c .before .before .before .before .before .before .before .before .is-memory .ensures) ∙ not-false _ (c .before .before .before .before .before .before .before .if1 .left)), ← c .before .before .before .last-end .ensures, ← c .before .before .is-record .ensures, c .before .if3 .taken)) (c .refused3 .ensures) refl refl refl)
-    (λ c. event-by (eventStays None (c .before .before .before .before .before .before .before .before .before .before .before .before .args .bytes .now) (c .before .before .before .before .before .before .before .before .before .before .before .before .args .memory .now) (c .before .before .before .before .before .before .before .before .before .before .before .before .args .room .now)) (rw (← c .before .before .before .before .before .before .before .before .is-memory .ensures, c .before .before .before .before .before .before .before .if1 .left, le-ltb _ _ (c .before .before .before .before .before .before .if2 .left), blocks-by-end (c .before .before .before .before .before .before .before .before .before .before .before .before .args .memory .now) (sym (c .before .before .before .before .before .before .before .before .is-memory .ensures) ∙ not-false _ (c .before .before .before .before .before .before .before .if1 .left)), ← c .before .before .before .last-end .ensures, ← c .before .before .is-record .ensures, c .before .if3 .left, lt-ltb _ _ (c .if4 .taken))) refl refl refl refl)
+    returns-2
     (λ c κs. search needs)
     (λ c κs. search needs)
+    (λ c κs. search needs)
+    returns-3
+    returns-4
+    (λ c κs. search needs)
+    (λ c κs. search needs)
+    step-requires
     (λ c κs. search needs)
     (λ c κs. search needs)
     (λ c. search needs)
     (λ c. search needs)
-    (λ c. event-taken (c .before .before .before .before .before .before .before .event .result) (sym (c .before .before .before .before .before .before .before .before .before .before .before .before .before .before .before .before .before .before .before .before .before .before .is-memory .ensures) ∙ not-false _ (c .before .before .before .before .before .before .before .before .before .before .before .before .before .before .before .before .before .before .before .before .before .if1 .left)) (c .before .before .before .before .before .before .before .before .before .before .before .before .before .before .before .before .before .before .before .before .if2 .left) (rw (blocks-by-end (c .before .before .before .before .before .before .before .before .before .before .before .before .before .before .before .before .before .before .before .before .before .before .before .before .before .before .args .memory .now) (sym (c .before .before .before .before .before .before .before .before .before .before .before .before .before .before .before .before .before .before .before .before .before .before .is-memory .ensures) ∙ not-false _ (c .before .before .before .before .before .before .before .before .before .before .before .before .before .before .before .before .before .before .before .before .before .if1 .left)), ← c .before .before .before .before .before .before .before .before .before .before .before .before .before .before .before .before .before .last-end .ensures) (sym (c .before .before .before .before .before .before .before .before .before .before .before .before .before .before .before .before .is-record .ensures) ∙ not-false _ (c .before .before .before .before .before .before .before .before .before .before .before .before .before .before .before .if3 .left))) (le-ltb _ _ (c .before .before .before .before .before .before .before .before .before .before .before .before .before .before .if4 .left)) (rw (← c .before .before .before .before .before .before .before .before .before .before .before .read-record .ensures, ← c .before .before .before .before .before .before .before .before .before .before .kind-in .ensures) (c .before .before .before .before .before .before .before .event .ensures)) (c .write-record .ensures)))
+    returns-5
+    (λ c. search needs)
+    (λ c. search needs)
+    returns-6)

@@ -1,5 +1,6 @@
--- `host::load` meets its contract.
+-- `host::load` meets its contract: each number in its order, and what `image::reading::load` promised.
 -- Assumes nothing.
+use native.Mathlib.Omega.{arith}
 use mathlib.Core.Path.{refl, sym, _∙_}
 use lib.ListN.{drop}
 use borrow.Author.Tests.{not-false}
@@ -12,21 +13,102 @@ use borrow.Author.Needs.{needs}
 use Rattle.host.proofs.load.Statement.{statement}
 use Rattle.host.proofs.load.Tie as tie
 
-pub load-spec : {M : Type 1} → statement M
+-- 4: the image
+returns : tie.Need-returns
 unfolding loadGiven
+returns c =
+    let at = c .before .before .before .before .before .before .args in
+    load-by (loadRefused Image (at .t) (at .memory .now)) (rw (← c .before .before .before .is-image .ensures, c .before .if1 .taken)) (c .refuse .ensures) refl
+
+-- 1: the memory
+returns-2 : tie.Need-returns-2
+unfolding loadGiven
+returns-2 c =
+    let at = c .before .before .before .before .before .before .before .args in
+    load-by (loadRefused Memory (at .t) (at .memory .now))
+    (rw (
+      ← c .before .before .before .before .is-image .ensures,
+      c .before .before .if1 .left,
+      ← c .before .before .before .fits-image .ensures,
+      c .before .if2 .taken,
+    ))
+    (c .refuse2 .ensures) refl
+
+-- an image that fits has a header
+header-right-requires : tie.Need-header-right-requires
+header-right-requires c κs =
+    let at = c .before .before .before .before .before .before .before .args in
+    let fit = sym (c .before .before .before .fits-image .ensures) ∙ not-false _ (c .before .if2 .left) in
+    omega (arith, fitting (at .memory .now) (at .image .now) fit .1)
+
+-- 5: the header
+returns-3 : tie.Need-returns-3
+unfolding loadGiven
+returns-3 c =
+    let at = c .before .before .before .before .before .before .before .before .before .before .args in
+    let header = c .before .before in
+    let whole = header .before .before .before .if1 .left in
+    let fits = header .before .before .before .before in
+    let fit = sym (fits .fits-image .ensures) ∙ not-false _ (header .before .before .if2 .left) in
+    let blocks = blocks-by-end (at .memory .now) (fitting (at .memory .now) (at .image .now) fit .0) in
+    load-by (loadRefused Header (at .t) (at .memory .now))
+    (rw (
+      ← fits .before .is-image .ensures,
+      whole,
+      ← fits .fits-image .ensures,
+      header .before .before .if2 .left,
+      blocks,
+      ← header .before .last-end .ensures,
+      ← header .header-right .ensures,
+      c .before .if3 .taken,
+    ))
+    (c .refuse3 .ensures) refl
+
+-- it has 64 bytes more than the memory
+load-requires : tie.Need-load-requires
+load-requires c κs =
+    let at = c .before .before .before .before .before .before .before .before .before .before .args in
+    fitting (at .memory .now) (at .image .now)
+    (sym (c .before .before .before .before .before .before .fits-image .ensures) ∙ not-false _ (c .before .before .before .before .if2 .left)) .1
+
+-- none of these: the image is loaded
+returns-4 : tie.Need-returns-4
+unfolding loadGiven
+returns-4 c =
+    let at = c .before .before .before .before .before .before .before .before .before .before .before .before .before .args in
+    let header = c .before .before .before .before .before in
+    let whole = header .before .before .before .if1 .left in
+    let fits = header .before .before .before .before in
+    let fit = sym (fits .fits-image .ensures) ∙ not-false _ (header .before .before .if2 .left) in
+    let blocks = blocks-by-end (at .memory .now) (fitting (at .memory .now) (at .image .now) fit .0) in
+    let loaded = c .before .before .load .ensures in
+    load-by (record { result = outcome None 0 (tagIn (at .image .now)); memory = drop 64 (at .image .now) })
+    (rw (
+      ← fits .before .is-image .ensures,
+      whole,
+      ← fits .fits-image .ensures,
+      header .before .before .if2 .left,
+      blocks,
+      ← header .before .last-end .ensures,
+      ← header .header-right .ensures,
+      c .before .before .before .before .if3 .left,
+    ))
+    (rw (loaded .0)) (loaded .1)
+
+pub load-spec : {M : Type 1} → statement M
 load-spec =
     tie.close
     (tie.spec
     (λ c κs. search needs)
     (λ c κs. search needs)
     (λ c κs. search needs)
+    returns
     (λ c κs. search needs)
+    returns-2
     (λ c κs. search needs)
-    (λ c. load-by (loadRefused Image (c .before .before .before .before .before .before .before .before .args .t) (c .before .before .before .before .before .before .before .before .args .memory .now)) (rw (← c .before .before .before .before .before .is-image .ensures, c .before .if1 .taken)) (c .refuse .ensures) refl)
+    header-right-requires
     (λ c κs. search needs)
-    (λ c. load-by (loadRefused Memory (c .before .before .before .before .before .before .before .before .before .args .t) (c .before .before .before .before .before .before .before .before .before .args .memory .now)) (rw (← c .before .before .before .before .before .before .is-image .ensures, c .before .before .if1 .left, ← c .before .before .before .before .before .fits-image .ensures, c .before .if2 .taken)) (c .refuse2 .ensures) refl)
-    (λ c κs. search needs)
-    (λ c. load-by (loadRefused Header (c .before .before .before .before .before .before .before .before .before .before .args .t) (c .before .before .before .before .before .before .before .before .before .before .args .memory .now)) (rw (← c .before .before .before .before .before .before .before .is-image .ensures, c .before .before .before .if1 .left, ← c .before .before .before .before .before .before .fits-image .ensures, c .before .before .if2 .left, blocks-by-end (c .before .before .before .before .before .before .before .before .before .before .args .memory .now) (fitting (c .before .before .before .before .before .before .before .before .before .before .args .memory .now) (c .before .before .before .before .before .before .before .before .before .before .args .image .now) (sym (c .before .before .before .before .before .before .fits-image .ensures) ∙ not-false _ (c .before .before .if2 .left)) .0), ← c .before .before .before .before .before .last-end .ensures, ← c .before .before .before .before .header-right .ensures, c .before .if3 .taken)) (c .refuse3 .ensures) refl)
-    (λ c κs. fitting (c .before .before .before .before .before .before .before .before .before .before .args .memory .now) (c .before .before .before .before .before .before .before .before .before .before .args .image .now) (sym (c .before .before .before .before .before .before .fits-image .ensures) ∙ not-false _ (c .before .before .if2 .left)) .1)
+    returns-3
+    load-requires
     (λ c. search needs)
-    (λ c. load-by (record { result = outcome None 0 (tagIn (c .before .before .before .before .before .before .before .before .before .before .before .before .before .args .image .now)); memory = drop 64 (c .before .before .before .before .before .before .before .before .before .before .before .before .before .args .image .now) }) (rw (← c .before .before .before .before .before .before .before .before .before .before .is-image .ensures, c .before .before .before .before .before .before .if1 .left, ← c .before .before .before .before .before .before .before .before .before .fits-image .ensures, c .before .before .before .before .before .if2 .left, blocks-by-end (c .before .before .before .before .before .before .before .before .before .before .before .before .before .args .memory .now) (fitting (c .before .before .before .before .before .before .before .before .before .before .before .before .before .args .memory .now) (c .before .before .before .before .before .before .before .before .before .before .before .before .before .args .image .now) (sym (c .before .before .before .before .before .before .before .before .before .fits-image .ensures) ∙ not-false _ (c .before .before .before .before .before .if2 .left)) .0), ← c .before .before .before .before .before .before .before .before .last-end .ensures, ← c .before .before .before .before .before .before .before .header-right .ensures, c .before .before .before .before .if3 .left)) (rw (c .before .before .load .ensures .0)) (c .before .before .load .ensures .1)))
+    returns-4)

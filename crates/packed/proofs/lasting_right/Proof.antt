@@ -5,8 +5,12 @@ use borrow.Author.Needs.{needs}
 use Rattle.packed.proofs.lasting_right.Statement.{statement}
 use Rattle.packed.proofs.lasting_right.Tie as tie
 
-pub lasting-right-spec : {M : Type 1} → statement M
+-- each rule by the function that tests it
+returns : tie.Need-returns
 unfolding lastingRule
+returns c = cc
+
+pub lasting-right-spec : {M : Type 1} → statement M
 lasting-right-spec =
     tie.close
     (tie.spec
@@ -14,4 +18,4 @@ lasting-right-spec =
     (λ c κs. search needs)
     (λ c κs. search needs)
     (λ c κs. search needs)
-    (λ c. rw (c .before .before .before .byte-at .ensures, c .before .before .mark .ensures, c .before .locks-right .ensures, c .reserved-right .ensures)))
+    returns)

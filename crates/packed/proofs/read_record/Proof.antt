@@ -5,12 +5,19 @@ use borrow.Author.Needs.{needs}
 use Rattle.packed.proofs.read_record.Statement.{statement}
 use Rattle.packed.proofs.read_record.Tie as tie
 
-pub read-record-spec : {M : Type 1} → statement M
+-- it is given what the header says
+read-front-requires : tie.Need-read-front-requires
+read-front-requires c κs = (c .before .before .before .before .pre, rw (c .before .before .read-header .ensures))
+
+read-vault-requires : tie.Need-read-vault-requires
+read-vault-requires c κs = (c .before .before .before .before .before .pre, rw (c .before .before .before .read-header .ensures))
+
+-- both parts are those of the record
+returns : tie.Need-returns
 unfolding recordIn
+returns c = rw (c .before .read-front .ensures, c .read-vault .ensures)
+
+pub read-record-spec : {M : Type 1} → statement M
 read-record-spec =
     tie.close
-    (tie.spec
-    (λ c κs. search needs)
-    (λ c κs. rw (c .before .before .read-header .ensures))
-    (λ c κs. rw (c .before .before .before .read-header .ensures))
-    (λ c. rw (c .before .read-front .ensures, c .read-vault .ensures)))
+    (tie.spec (λ c κs. search needs) read-front-requires read-vault-requires returns)

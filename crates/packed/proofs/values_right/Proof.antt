@@ -1,18 +1,12 @@
 -- `packed::values_right` meets its contract.
 -- Assumes nothing.
-use Rattle.packed.specs.Bytes.{valueRule}
 use borrow.Author.Needs.{needs}
 use Rattle.packed.proofs.values_right.Statement.{statement}
 use Rattle.packed.proofs.values_right.Tie as tie
 
+-- the three bytes that were read are those that the rule names
+returns : tie.Need-returns
+returns c = cc
+
 pub values-right-spec : {M : Type 1} → statement M
-unfolding valueRule
-values-right-spec =
-    tie.close
-    (tie.spec
-    (λ c κs. search needs)
-    (λ c κs. search needs)
-    (λ c κs. search needs)
-    (λ c κs. search needs)
-    (λ c κs. search needs)
-    (λ c. rw (c .before .before .before .before .byte-at .ensures, c .before .before .before .byte-at2 .ensures, c .before .before .byte-at3 .ensures, c .before .byte-at4 .ensures, c .byte-at5 .ensures)))
+values-right-spec = tie.close (tie.spec (λ c κs. search needs) (λ c κs. search needs) (λ c κs. search needs) returns)

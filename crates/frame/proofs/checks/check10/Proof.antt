@@ -5,13 +5,12 @@ use Rattle.put.proofs.Proves.{proves}
 use Rattle.frame.proofs.checks.check10.Statement.{statement}
 use Rattle.frame.proofs.checks.check10.Tie as tie
 
-pub check10-spec : {M : Type 1} → statement M
+-- the entry that is lent is the code's
+returns : tie.Need-returns
 unfolding check10
+returns c = rw (c .before .flag-bit .ensures, c .takes-none .ensures, c .before .before .before .pre)
+
+pub check10-spec : {M : Type 1} → statement M
 check10-spec =
     tie.close
-    (tie.spec
-    (λ c κs. search proves)
-    (λ c κs. search proves)
-    (λ c κs. search proves)
-    (λ c κs. search proves)
-    (λ c. rw (c .before .flag-bit .ensures, c .takes-none .ensures, c .before .before .entry-of .ensures, c .before .before .before .code-of .ensures)))
+    (tie.spec (λ c κs. search proves) (λ c κs. search proves) returns)

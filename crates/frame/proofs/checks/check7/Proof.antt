@@ -5,12 +5,12 @@ use Rattle.put.proofs.Proves.{proves}
 use Rattle.frame.proofs.checks.check7.Statement.{statement}
 use Rattle.frame.proofs.checks.check7.Tie as tie
 
-pub check7-spec : {M : Type 1} → statement M
+-- the entry that is lent is the code's
+returns : tie.Need-returns
 unfolding check7
+returns c = rw (c .is-unlisted .ensures, c .before .before .pre)
+
+pub check7-spec : {M : Type 1} → statement M
 check7-spec =
     tie.close
-    (tie.spec
-    (λ c κs. search proves)
-    (λ c κs. search proves)
-    (λ c κs. search proves)
-    (λ c. rw (c .is-unlisted .ensures, c .before .entry-of .ensures, c .before .before .code-of .ensures)))
+    (tie.spec (λ c κs. search proves) returns)

@@ -4,6 +4,10 @@ use borrow.Author.Needs.{needs}
 use Rattle.image.proofs.reading.read_areas.Statement.{statement}
 use Rattle.image.proofs.reading.read_areas.Tie as tie
 
+-- each byte from its place
+returns : tie.Need-returns
+returns c = cc
+
 pub read-areas-spec : {M : Type 1} → statement M
 read-areas-spec =
     tie.close
@@ -15,4 +19,4 @@ read-areas-spec =
     (λ c κs. search needs)
     (λ c κs. search needs)
     (λ c κs. search needs)
-    (λ c. rw (c .before .before .before .before .before .before .byte-at .ensures, c .before .before .before .before .before .byte-at2 .ensures, c .before .before .before .before .byte-at3 .ensures, c .before .before .before .byte-at4 .ensures, c .before .before .byte-at5 .ensures, c .before .byte-at6 .ensures, c .byte-at7 .ensures)))
+    returns)

@@ -5,8 +5,12 @@ use borrow.Author.Needs.{needs}
 use Rattle.image.proofs.reading.read_front.Statement.{statement}
 use Rattle.image.proofs.reading.read_front.Tie as tie
 
-pub read-front-spec : {M : Type 1} → statement M
+-- each part from its place
+returns : tie.Need-returns
 unfolding tagIn
+returns c = rw (c .before .before .before .byte-of .ensures, c .before .before .eight-of .ensures, c .before .byte-of2 .ensures, c .byte-of3 .ensures)
+
+pub read-front-spec : {M : Type 1} → statement M
 read-front-spec =
     tie.close
     (tie.spec
@@ -14,4 +18,4 @@ read-front-spec =
     (λ c κs. search needs)
     (λ c κs. search needs)
     (λ c κs. search needs)
-    (λ c. rw (c .before .before .before .byte-at .ensures, c .before .before .number8 .ensures, c .before .byte-at2 .ensures, c .byte-at3 .ensures)))
+    returns)

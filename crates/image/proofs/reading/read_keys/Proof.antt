@@ -5,8 +5,13 @@ use borrow.Author.Needs.{needs}
 use Rattle.image.proofs.reading.read_keys.Statement.{statement}
 use Rattle.image.proofs.reading.read_keys.Tie as tie
 
-pub read-keys-spec : {M : Type 1} → statement M
+-- each password from its place
+returns : tie.Need-returns
 unfolding tagIn
+returns c =
+    rw (c .before .before .before .eight-of .ensures, c .before .before .eight-of2 .ensures, c .before .eight-of3 .ensures, c .eight-of4 .ensures)
+
+pub read-keys-spec : {M : Type 1} → statement M
 read-keys-spec =
     tie.close
     (tie.spec
@@ -14,4 +19,4 @@ read-keys-spec =
     (λ c κs. search needs)
     (λ c κs. search needs)
     (λ c κs. search needs)
-    (λ c. rw (c .before .before .before .number8 .ensures, c .before .before .number82 .ensures, c .before .number83 .ensures, c .number84 .ensures)))
+    returns)

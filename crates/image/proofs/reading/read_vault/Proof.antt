@@ -6,12 +6,12 @@ use borrow.Author.Needs.{needs}
 use Rattle.image.proofs.reading.read_vault.Statement.{statement}
 use Rattle.image.proofs.reading.read_vault.Tie as tie
 
-pub read-vault-spec : {M : Type 1} → statement M
+-- areas, passwords, and the bits of the lock byte
+returns : tie.Need-returns
 unfolding tagIn
+returns c = rw (c .before .read-areas .ensures, c .read-keys .ensures, c .before .before .byte-of .ensures, div-one)
+
+pub read-vault-spec : {M : Type 1} → statement M
 read-vault-spec =
     tie.close
-    (tie.spec
-    (λ c κs. search needs)
-    (λ c κs. search needs)
-    (λ c κs. search needs)
-    (λ c. rw (c .before .read-areas .ensures, c .read-keys .ensures, c .before .before .byte-at .ensures, div-one)))
+    (tie.spec (λ c κs. search needs) (λ c κs. search needs) (λ c κs. search needs) returns)

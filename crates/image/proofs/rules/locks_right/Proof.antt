@@ -5,10 +5,12 @@ use borrow.Author.Needs.{needs}
 use Rattle.image.proofs.rules.locks_right.Statement.{statement}
 use Rattle.image.proofs.rules.locks_right.Tie as tie
 
-pub locks-right-spec : {M : Type 1} → statement M
+-- byte 11
+returns : tie.Need-returns
 unfolding lockRule
+returns c = cc
+
+pub locks-right-spec : {M : Type 1} → statement M
 locks-right-spec =
     tie.close
-    (tie.spec
-    (λ c κs. search needs)
-    (λ c. rw (c .byte-at .ensures)))
+    (tie.spec (λ c κs. search needs) returns)

@@ -5,12 +5,10 @@ use borrow.Author.Needs.{needs}
 use Rattle.image.proofs.rules.mark_right.Statement.{statement}
 use Rattle.image.proofs.rules.mark_right.Tie as tie
 
-pub mark-right-spec : {M : Type 1} → statement M
+-- byte 0, beside the mark of what follows the header
+returns : tie.Need-returns
 unfolding markRule
-mark-right-spec =
-    tie.close
-    (tie.spec
-    (λ c κs. search needs)
-    (λ c κs. search needs)
-    (λ c κs. search needs)
-    (λ c. rw (c .before .before .byte-at .ensures, c .mark .ensures, c .before .memory-size .ensures)))
+returns c = cc
+
+pub mark-right-spec : {M : Type 1} → statement M
+mark-right-spec = tie.close (tie.spec (λ c κs. search needs) (λ c. search needs) (λ c κs. search needs) returns)
