@@ -1,4 +1,2 @@
-pub mod Form
-pub mod Row
 pub mod Desk
 pub mod Progress

@@ -1,13 +1,17 @@
 // The bench's own test program: standard input to standard output, in pieces and with constant memory. Each line is a call over the C
 // boundary, and its answer line is written when the line is complete.
 mod desk; // desk.rt: the lent buffers, and what a line does to them
-mod form; // form.rt: what a line asks for
-mod row; // row.rt: the answer line of a call
 
-use desk::Lent;
+use caselines::lent::Lent;
+use caselines::limits::LINE;
+use caselines::limits::MEMORY;
+use caselines::limits::ROOM;
+use caselines::limits::ROW;
+use packed::RECORD;
 ghost use mathlib.Core.Path.{_≡_};
 ghost use Prim.Native.Nat.{_≤_};
 ghost use lib.ListN.{length};
+ghost use Rattle.caselines.specs.Limits.{lineMost};
 ghost use Rattle.casebook.specs.Desk.{Buffers};
 ghost use Rattle.casebook.specs.Progress.{Kept};
 
@@ -17,9 +21,10 @@ const STDOUT: i32 = 1;
 
 const NEWLINE: u8 = 0x0A;
 
-// How far the program is: what is lent, how much of a line is there, and whether the output took all that was written. The line so far is kept
-// up to 18,007 bytes: the longest that has a form, `PUT 0 ` and 9,000 bytes, has 18,006, and a longer line has none, whatever comes.
+// How far the program is: the record, what is lent, how much of a line is there, and whether the output took all that was written. The line so
+// far is kept up to LINE bytes, one more than the longest that has a form: a longer line has none, whatever comes.
 struct Progress {
+    tag: [u8; RECORD],
     lent: Lent,
     length: usize,
     open: bool,
@@ -32,23 +37,19 @@ fn show(out: &[u8], n: usize) -> bool
 }
 
 // The line so far ends: it is answered.
-fn end_line(
-    p: Progress,
-    line: &[u8],
-    tag: &mut [u8; 72],
-    memory: &mut [u8],
-    room: &mut [u8],
-    out: &mut [u8],
-) -> Progress
-    requires { ⌜ Kept p × ((length (now line) ≡ 18007) × Buffers (length (now memory)) (length (now room)) (length (now out))) ⌝ }
+fn end_line(p: Progress, line: &[u8], memory: &mut [u8], room: &mut [u8]) -> Progress
+    requires { ⌜ Kept p × ((length (now line) ≡ lineMost) × Buffers (length (now memory)) (length (now room))) ⌝ }
     ensures { λ r. ⌜ Kept r ⌝ }
 {
     let n = p.length;
     let lent = p.lent;
-    let done = desk::answer(lent, &line[..n], tag, memory, room, out);
+    let mut tag = p.tag;
+    let mut out = [0u8; ROW];
+    let done = desk::answer(lent, &line[..n], &mut tag, memory, room, &mut out);
     let next = done.lent;
-    let open = show(out, done.length);
+    let open = show(&out, done.length);
     Progress {
+        tag,
         lent: next,
         length: 0,
         open,
@@ -56,12 +57,12 @@ fn end_line(
 }
 
 // One byte more of the line so far.
-fn add_byte(p: Progress, byte: u8, line: &mut [u8; 18007]) -> Progress
+fn add_byte(p: Progress, byte: u8, line: &mut [u8; LINE]) -> Progress
     requires { ⌜ Kept p ⌝ }
     ensures { λ r. ⌜ Kept r ⌝ }
 {
     let at = p.length;
-    if at < 18007 {
+    if at < LINE {
         line[at] = byte;
         return Progress {
             length: at + 1,
@@ -74,17 +75,15 @@ fn add_byte(p: Progress, byte: u8, line: &mut [u8; 18007]) -> Progress
 fn feed(
     p: Progress,
     byte: u8,
-    line: &mut [u8; 18007],
-    tag: &mut [u8; 72],
-    memory: &mut [u8; 9000],
-    room: &mut [u8; 11000],
-    out: &mut [u8; 22198],
+    line: &mut [u8; LINE],
+    memory: &mut [u8; MEMORY],
+    room: &mut [u8; ROOM],
 ) -> Progress
     requires { ⌜ Kept p ⌝ }
     ensures { λ r. ⌜ Kept r ⌝ }
 {
     if byte == NEWLINE {
-        return end_line(p, line, tag, memory, room, out);
+        return end_line(p, line, memory, room);
     }
     add_byte(p, byte, line)
 }
@@ -93,11 +92,9 @@ fn feed(
 fn piece(
     start: Progress,
     bytes: &[u8],
-    line: &mut [u8; 18007],
-    tag: &mut [u8; 72],
-    memory: &mut [u8; 9000],
-    room: &mut [u8; 11000],
-    out: &mut [u8; 22198],
+    line: &mut [u8; LINE],
+    memory: &mut [u8; MEMORY],
+    room: &mut [u8; ROOM],
 ) -> Progress
     requires { ⌜ Kept start ⌝ }
     ensures { λ r. ⌜ Kept r ⌝ }
@@ -105,7 +102,7 @@ fn piece(
     let mut p = start;
     let mut i = 0;
     while i < bytes.len() {
-        p = feed(p, bytes[i], line, tag, memory, room, out);
+        p = feed(p, bytes[i], line, memory, room);
         if !p.open {
             return p;
         }
@@ -118,11 +115,9 @@ fn piece(
 // uses up.
 fn run(
     start: Progress,
-    line: &mut [u8; 18007],
-    tag: &mut [u8; 72],
-    memory: &mut [u8; 9000],
-    room: &mut [u8; 11000],
-    out: &mut [u8; 22198],
+    line: &mut [u8; LINE],
+    memory: &mut [u8; MEMORY],
+    room: &mut [u8; ROOM],
 ) -> Progress
     requires { ⌜ Kept start ⌝ }
     ensures { λ r. ⌜ Kept r ⌝ }
@@ -135,7 +130,7 @@ fn run(
         if n == 0 {
             return p;
         }
-        p = piece(p, &buffer[..n], line, tag, memory, room, out);
+        p = piece(p, &buffer[..n], line, memory, room);
         if !p.open {
             return p;
         }
@@ -145,38 +140,31 @@ fn run(
 }
 
 // A last line may lack its newline.
-fn last(
-    p: Progress,
-    line: &[u8; 18007],
-    tag: &mut [u8; 72],
-    memory: &mut [u8; 9000],
-    room: &mut [u8; 11000],
-    out: &mut [u8; 22198],
-)
+fn last(p: Progress, line: &[u8; LINE], memory: &mut [u8; MEMORY], room: &mut [u8; ROOM])
     requires { ⌜ Kept p ⌝ }
 {
     if p.open & (0 < p.length) {
-        end_line(p, line, tag, memory, room, out);
+        end_line(p, line, memory, room);
     }
 }
 
 // "At the start: memory 2,048 bytes of 0, room 10,243 bytes of EEh, record: factory 16 Kbit tag with UID 0."
 fn main() {
-    let mut line = [0u8; 18007];
-    let mut tag = [0u8; 72];
-    let mut memory = [0u8; 9000];
-    let mut room = [0xEEu8; 11000];
-    let mut out = [0u8; 22198];
+    let mut line = [0u8; LINE];
+    let mut tag = [0u8; RECORD];
+    let mut memory = [0u8; MEMORY];
+    let mut room = [0xEEu8; ROOM];
     cabi::uistermo_factory(1, 0, &mut tag);
     let lent = Lent {
         memory: 2048,
         room: 10243,
     };
     let start = Progress {
+        tag,
         lent,
         length: 0,
         open: true,
     };
-    let p = run(start, &mut line, &mut tag, &mut memory, &mut room, &mut out);
-    last(p, &line, &mut tag, &mut memory, &mut room, &mut out);
+    let p = run(start, &mut line, &mut memory, &mut room);
+    last(p, &line, &mut memory, &mut room);
 }

@@ -1,4 +1,4 @@
--- `casebook::end_line` is safe and ends: what is there of the line lies within its buffer.
+-- `casebook::end_line` is safe and ends.
 -- Assumes nothing.
 use mathlib.Core.Path.{sym}
 use lib.Seq.{length-take-le}
@@ -6,14 +6,19 @@ use borrow.Author.Needs.{needs}
 use Rattle.casebook.proofs.end_line.Statement.{statement}
 use Rattle.casebook.proofs.end_line.Tie as tie
 
+-- what is there of the line lies within its buffer
+slice-aggregate-answer : tie.Need-slice-aggregate-answer
+slice-aggregate-answer c = sym (length-take-le _ _ (search needs))
+
 pub end-line-spec : {M : Type 1} → statement M
 end-line-spec =
     tie.close
     (tie.spec
-    (λ c. sym (length-take-le _ _ (search needs)))
-    (λ c κs. search needs)
+    slice-aggregate-answer
+    (λ c. search needs)
     (λ c κs. search needs)
     (λ c. search needs)
+    (λ c κs. search needs)
     (λ c. search needs)
     (λ c. search needs)
     (λ c. search needs))

@@ -8,10 +8,10 @@ use Rattle.casebook.proofs.piece.Statement.{statement}
 use Rattle.casebook.proofs.piece.Tie as tie
 
 abbrev Inv-loop : tie.InvT-loop
-Inv-loop bytes line₀ tag₀ memory₀ room₀ out₀ p₀ i₀ line tag memory room out p i = Kept p
+Inv-loop bytes line₀ memory₀ room₀ p₀ i₀ line memory room p i = Kept p
 
 abbrev μ-loop : tie.MeasureT-loop
-μ-loop bytes line₀ tag₀ memory₀ room₀ out₀ p₀ i₀ line tag memory room out p i = length bytes - i
+μ-loop bytes line₀ memory₀ room₀ p₀ i₀ line memory room p i = length bytes - i
 
 pub piece-spec : {M : Type 1} → statement M
 piece-spec =

@@ -8,10 +8,10 @@ use Rattle.casebook.proofs.run.Statement.{statement}
 use Rattle.casebook.proofs.run.Tie as tie
 
 abbrev Inv-loop : tie.InvT-loop
-Inv-loop line₀ tag₀ memory₀ room₀ out₀ p₀ buffer₀ turns₀ line tag memory room out p buffer turns = Kept p × (length buffer ≡ 4096)
+Inv-loop line₀ memory₀ room₀ p₀ buffer₀ turns₀ line memory room p buffer turns = Kept p × (length buffer ≡ 4096)
 
 abbrev μ-loop : tie.MeasureT-loop
-μ-loop line₀ tag₀ memory₀ room₀ out₀ p₀ buffer₀ turns₀ line tag memory room out p buffer turns = turns
+μ-loop line₀ memory₀ room₀ p₀ buffer₀ turns₀ line memory room p buffer turns = turns
 
 pub run-spec : {M : Type 1} → statement M
 run-spec =

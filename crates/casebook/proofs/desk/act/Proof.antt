@@ -1,9 +1,63 @@
--- `casebook::desk::act` is safe and ends, in each arm.
+-- `casebook::desk::act` is safe and ends, in each arm: what the form says of its numbers is what each call asks for.
 -- Assumes nothing.
-use Rattle.casebook.proofs.Desks.{digits-most}
+use native.Mathlib.Omega.{arith}
+use lib.ListN.{length-drop}
+use Rattle.put.proofs.Lists.{tail}
+use Rattle.caselines.proofs.Fitting.{digits-most}
 use borrow.Author.Needs.{needs}
 use Rattle.casebook.proofs.desk.act.Statement.{statement}
 use Rattle.casebook.proofs.desk.act.Tie as tie
+
+-- `SAVE n`: the image is as long as its range says
+save-requires : tie.Need-save-requires
+save-requires c κs =
+    let f = c .before .before .before .before in
+    let s = f .before .before .before .before .before .before in
+    (rw (f .form .given .1) at (s .pre .0), s .pre .1 .of-out)
+
+-- `REC hex`: the digits are those of a record
+take-requires : tie.Need-take-requires
+take-requires c κs =
+    let f = c .before .before .before .before in
+    let s = f .before .before .before .before .before .before in
+    let h = rw (f .form2 .given .1) at (s .pre .0) in
+    (omega (arith, digits-most (s .args .line .now) _ (c .before .before .after .ensures) h), s .pre .1 .of-out)
+
+-- `LOAD hex`: the digits are those of the longest image at most
+load-requires : tie.Need-load-requires
+load-requires c κs =
+    let f = c .before .before .before .before .before .before in
+    let s = f .before .before .before .before .before .before in
+    (digits-most (s .args .line .now) _ (c .before .before .before .before .after2 .ensures) (rw (f .form3 .given .1) at (s .pre .0)), s .pre .1)
+
+-- `PUT at hex`: the place lies in the memory
+sub-take : tie.Need-sub-take
+sub-take c =
+    let f = c .before .before in
+    let h = rw (f .form4 .given .1) at (f .before .before .before .before .before .before .pre .0) in
+    h .0
+
+part-take-start : tie.Need-part-take-start
+part-take-start c =
+    let f = c .before .before in
+    let h = rw (f .form4 .given .1) at (f .before .before .before .before .before .before .pre .0) in
+    h .0
+
+-- and the digits' bytes from there on
+take-requires-2 : tie.Need-take-requires-2
+take-requires-2 c κs =
+    let f = c .before .before .before .before in
+    let s = f .before .before .before .before .before .before in
+    let h = rw (f .form4 .given .1) at (s .pre .0) in
+    let g = digits-most (s .args .line .now) _ (c .before .before .after3 .ensures) (h .1) in
+    (rw tail (simp length-drop g), s .pre .1 .of-out)
+
+-- an event: the digits are those of the longest frame at most
+event-requires : tie.Need-event-requires
+event-requires c κs =
+    let f = c .before .before .before .before .before .before in
+    let s = f .before .before .before .before .before .before in
+    (digits-most (s .args .line .now) _ (c .before .before .before .before .after4 .ensures) (rw (f .form5 .given .1) at (s .pre .0)), s .pre .1)
 
 pub act-spec : {M : Type 1} → statement M
 act-spec =
@@ -16,19 +70,22 @@ act-spec =
     (λ c. search needs)
     (λ c κs. search needs)
     (λ c. search needs)
-    (λ c κs. let s = c .before .before .before .before .before .before .before .before .before .before in (rw (c .before .before .before .before .form .given .1) at (s .pre .0), s .pre .1 .of-out))
+    save-requires
     (λ c. search needs)
     (λ c κs. search needs)
-    (λ c κs. let s = c .before .before .before .before .before .before .before .before .before .before in (digits-most (s .args .line .now) _ (c .before .before .after .ensures) (rw (c .before .before .before .before .form2 .given .1) at (s .pre .0)), s .pre .1 .of-out))
+    take-requires
     (λ c. search needs)
     (λ c κs. search needs)
-    (λ c κs. let s = c .before .before .before .before .before .before .before .before .before .before .before .before in (digits-most (s .args .line .now) _ (c .before .before .before .before .after2 .ensures) (rw (c .before .before .before .before .before .before .form3 .given .1) at (s .pre .0)), s .pre .1))
+    load-requires
     (λ c. search needs)
     (λ c κs. search needs)
-    (λ c κs. let s = c .before .before .before .before .before .before .before .before .before .before in let h = rw (c .before .before .before .before .form4 .given .1) at (s .pre .0) in ((h .0, digits-most (s .args .line .now) _ (c .before .before .after3 .ensures) (h .1)), s .pre .1 .of-out))
+    sub-take
+    part-take-start
+    (λ c. search needs)
+    take-requires-2
     (λ c. search needs)
     (λ c κs. search needs)
-    (λ c κs. let s = c .before .before .before .before .before .before .before .before .before .before .before .before in (digits-most (s .args .line .now) _ (c .before .before .before .before .after4 .ensures) (rw (c .before .before .before .before .before .before .form5 .given .1) at (s .pre .0)), s .pre .1))
+    event-requires
     (λ c. search needs)
     (λ c. search needs)
     (λ c κs. search needs)

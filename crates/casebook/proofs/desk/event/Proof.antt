@@ -9,17 +9,32 @@ use borrow.Author.Needs.{needs}
 use Rattle.casebook.proofs.desk.event.Statement.{statement}
 use Rattle.casebook.proofs.desk.event.Tie as tie
 
+-- the frame's bytes have room in its buffer
+put-bytes-requires : tie.Need-put-bytes-requires
+put-bytes-requires c κs = omega (arith, bytes-length (c .before .before .before .before .before .args .digits .now))
+
+-- so many bytes of the buffer are the frame
+array-share-prefix-frame : tie.Need-array-share-prefix-frame
+array-share-prefix-frame c = put-within (c .before .before .before .before .put-bytes .ensures)
+
+slice-aggregate-uistermo-event : tie.Need-slice-aggregate-uistermo-event
+slice-aggregate-uistermo-event c = sym (length-take-le _ _ (put-within (c .before .before .before .before .before .put-bytes .ensures)))
+
+-- the answer line lies within out
+returns : tie.Need-returns
+returns c = put-within (c .before .before .put-call .ensures)
+
 pub event-spec : {M : Type 1} → statement M
 event-spec =
     tie.close
     (tie.spec
     (λ c. search needs)
-    (λ c κs. omega (arith, bytes-length (c .before .before .before .before .before .args .digits .now)))
-    (λ c. put-within (c .before .before .before .before .put-bytes .ensures))
-    (λ c. sym (length-take-le _ _ (put-within (c .before .before .before .before .before .put-bytes .ensures))))
+    put-bytes-requires
+    array-share-prefix-frame
+    slice-aggregate-uistermo-event
     (λ c κs. search needs)
     (λ c κs. search needs)
     (λ c. search needs)
     (λ c. search needs)
     (λ c. search needs)
-    (λ c. search needs))
+    returns)

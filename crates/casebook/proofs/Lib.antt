@@ -1,3 +1,0 @@
-pub mod Figures
-pub mod Rows
-pub mod Desks

@@ -1,0 +1,5 @@
+pub mod Chain
+pub mod Figures
+pub mod Rows
+pub mod Fitting
+pub mod Lending

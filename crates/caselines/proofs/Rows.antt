@@ -1,0 +1,73 @@
+-- A text that is written in two pieces: the first at the start of out, the second into what is lent as `&mut out[at..]`.
+-- Assumes nothing.
+use mathlib.Core.Path.{_≡_, sym, _∙_}
+use mathlib.Core.Logic.{⊎-elim}
+use mathlib.Core.List.{List, [], _∷_, _++_, append-nil}
+use Prim.Native.Nat.{ℕ, _+_, _-_, _≤_, _<_, min}
+use native.Mathlib.Omega.{arith}
+use lib.ListN.{length, take, drop, length-append}
+use lib.Seq.{take-all, length-take-le}
+use Rattle.put.specs.Put.{Put}
+use Rattle.put.proofs.Written.{Next, sum, room, more, whole}
+use Rattle.text.proofs.Pieces.{one-next, begun}
+use Rattle.text.proofs.Texts.{less-or-not, hex-or-most, decimal-length}
+use Rattle.packed.specs.Bytes.{recordLength}
+use Rattle.caselines.specs.Limits.{roomMost, rowMost}
+use Rattle.caselines.specs.Row.{crcHigh, numbersText, pairText, rowText}
+
+-- a text has room where it has with what follows it
+pub first-room : (L M : List ℕ) {n : ℕ} → length (L ++ M) ≤ n → length L ≤ n
+first-room L M h = omega (arith, simp length-append at h)
+
+module _ {L xs ys : List ℕ} {at : ℕ} (M : List ℕ) (p : Put L xs ys at) (h : length (L ++ M) ≤ length xs) where
+  second : Next (L ++ M) M [] xs ys at
+  second = record { written = rw append-nil (begun M p h) }
+
+  pub second-room : length M ≤ length (take (length ys - at) (drop at ys))
+  second-room = room second
+
+  module _ {zs : List ℕ} {k : ℕ} (q : Put M (take (length ys - at) (drop at ys)) zs k) where
+    pub both-within : at + k ≤ length ys
+    both-within = omega (arith, sum second, q .count)
+
+    pub both-put : Put (L ++ M) xs (take at ys ++ (zs ++ drop (length ys - at) (drop at ys))) (at + k)
+    both-put = whole (more second q)
+
+-- one byte after what was put
+pub end-within : {L xs ys : List ℕ} {at : ℕ} (end : ℕ) → Put L xs ys at → length (L ++ (end ∷ [])) ≤ length xs → at < length ys
+end-within end p h = omega (arith, sum (one-next (begun (end ∷ []) p h)))
+
+-- ---- how long an answer line is
+
+-- it has room in rowMost bytes, where the answer is no longer than the room can be
+pub row-most : (number count : ℕ) (answer tag memory room : List ℕ)
+    → length answer ≤ roomMost → length tag ≡ recordLength → length (rowText number count answer tag memory room) ≤ rowMost
+unfolding rowText numbersText pairText
+row-most number count answer tag memory room h e =
+    simp length-append
+    (omega (
+      arith,
+      decimal-length 19 number,
+      decimal-length 19 count,
+      hex-or-most 0x2D answer roomMost (omega arith) h,
+      hex-or-most 0x2D tag recordLength (omega arith) (omega arith),
+      hex-or-most 0x2D (crcHigh memory) 2 (omega arith) (omega arith),
+      hex-or-most 0x2D (crcHigh room) 2 (omega arith) (omega arith),
+    ))
+
+-- ---- how much of the room is shown
+
+-- as many bytes as are asked for, or all
+module _ (n : ℕ) {r : ℕ} (l : List ℕ) (e : r ≡ min n (length l)) where
+  pub part-length : length (take r l) ≡ r
+  part-length = length-take-le r l (omega arith)
+
+  pub part-most : {k : ℕ} → length l ≤ k → length (take r l) ≤ k
+  part-most h = omega (arith, part-length)
+
+  pub part-same : take r l ≡ take n l
+  part-same =
+      ⊎-elim
+      (λ (k : n < length l). let f : r ≡ n = omega arith in rw f)
+      (λ (k : length l ≤ n). take-all r l (omega arith) ∙ sym (take-all n l k))
+      (less-or-not n (length l))

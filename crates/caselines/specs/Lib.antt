@@ -1,0 +1,4 @@
+pub mod Limits
+pub mod Form
+pub mod Row
+pub mod Lent
