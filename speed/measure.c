@@ -3,7 +3,7 @@
  * counts its instructions. x86-64 only.
  *
  *   measure compiler            prints the version of the compiler
- *   measure MIX TAG name        prints how many calls the mix has, and its name; MIX is a to h, TAG is 16 or 64 (Kbit)
+ *   measure MIX TAG name        prints how many calls the mix has, and its name; MIX is a to h, TAG is 16 or 64 (Kbit), 64 alone for c
  *   measure MIX TAG SUBJECT N   makes the mix N times; SUBJECT is library, plain, floor or none
  *   measure MIX TAG time        prints the CPU time of an event in ns: floor, plain C, library
  *
@@ -288,12 +288,14 @@ int main(int words, char **word)
         return printf("%zu %s\n", count, mix->name) < 0;
     const struct subject *s = find_subject(word[3]);
     bool timed = strcmp(word[3], "time") == 0;
-    if (!timed && (!s || words != 5))
+    char *rest = "";
+    unsigned long n = words == 5 ? strtoul(word[4], &rest, 10) : 0;
+    if (timed ? words != 4 : !s || !n || *rest || word[4][0] == '-')
         return 2;
     check();
     if (timed)
         print_times();
     else
-        run(s, strtoul(word[4], NULL, 10));
+        run(s, n);
     return 0;
 }

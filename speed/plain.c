@@ -532,7 +532,7 @@ static size_t inventory(struct tag *t, uint8_t *room, uint8_t flags, const uint8
 
 /* ---- events */
 
-/* A request other than Inventory: the maker's code, whom it means, then the table of commands. */
+/* A request other than Inventory: the manufacturer code, whom it means, then the table of commands. */
 static size_t other_request(struct tag *t, uint8_t *memory, uint8_t *room, uint8_t flags, uint8_t code, const uint8_t *p, const uint8_t *end)
 {
     if (code >= 0xA0 && code <= 0xDF && (p == end || *p++ != 0x02))

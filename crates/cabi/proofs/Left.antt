@@ -17,7 +17,7 @@ use Rattle.tag.specs.Step.{eventOf, step}
 use Rattle.tag.specs.Rules.{blocksOf}
 use Rattle.tag.specs.Image.{imageOf}
 use Rattle.tag.specs.Host.{numberOf, isMemory, fitsImage, isImage, eventDone, LoadGives}
-use Rattle.tag.proofs.Lasting.{NoFrame, on, off, end, header-lasts}
+use Rattle.tag.proofs.OnlyFrames.{NoFrame, on, off, end, lasts}
 use Rattle.step.specs.declared.Said.{Said}
 use Rattle.step.specs.Gives.{Gives}
 use Rattle.packed.specs.Bytes.{recordIn, isRecord, recordOf}
@@ -69,8 +69,8 @@ pub passing-taken : {k : ℕ} {frame r m x r′ m′ x′ : List ℕ} (s : Said)
     → (k ≡ 3 → ⊥)
     → Gives (step (recordIn r) m (eventOf (kindIn k) frame)) x m′ x′ s → PassingLeft (s .tag) r r′ → EventLeaves k frame r m x r′ m′ x′ (s .length)
 passing-taken {k} {frame} {r} {m} s a b d e other g w =
-    let lasts = header-lasts (length m) (recordIn r) m (no-frame k frame e other) in
-    event-taken s a b d e g (w .again (length m) (blocksOf m) d (rw (g .result) lasts))
+    let header = lasts (length m) (recordIn r) m (no-frame k frame e other) .header in
+    event-taken s a b d e g (w .whole (length m) (blocksOf m) d (rw (g .result) header))
 
 new-unless : (n : Refusal) (new old : List ℕ) → numberOf n ≡ 0 → unlessRefused n new old ≡ new
 new-unless refusal.None new old h = refl

@@ -85,7 +85,7 @@ bytesForm memory s =
     if leb (length s) (spaceIn s) then NoForm else
     placedBy (numberIn memory (take (spaceIn s) s)) memory (spaceIn s) s
 
--- ---- a line, beside a memory of so many bytes
+-- ---- a line, beside a memory of so many bytes; kinds of events are numbered as cabi does
 
 unfoldable pub hexForm : ℕ → List ℕ → Form
 hexForm memory l =

@@ -1,8 +1,8 @@
 // What a line asks for.
-use crate::limits::FRAME;
-use crate::limits::IMAGE;
-use crate::limits::MEMORY;
-use crate::limits::ROOM;
+use super::limits::FRAME;
+use super::limits::IMAGE;
+use super::limits::MEMORY;
+use super::limits::ROOM;
 use packed::RECORD;
 ghost use mathlib.Core.Path.{_≡_};
 ghost use Prim.Native.Nat.{_≤_};

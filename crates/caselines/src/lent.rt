@@ -1,5 +1,5 @@
 // What is lent as memory and as room, and how a line changes it.
-use crate::form::Form;
+use super::form::Form;
 ghost use mathlib.Core.Path.{_≡_};
 ghost use lib.ListN.{length, replicate};
 ghost use Rattle.caselines.specs.Lent.{Lends};

@@ -1,6 +1,7 @@
 -- Lent buffers of the right lengths, and what a call gives.
 -- Assumes nothing.
-use Prim.Native.Nat.{ℕ, _+_, _*_}
+use Prim.Native.Nat.{ℕ, _+_, _*_, _≤_}
+use native.Mathlib.Omega.{arith}
 use mathlib.Core.Path.{_≡_}
 use mathlib.Core.Bool.{true}
 use mathlib.Core.List.{List}
@@ -13,7 +14,7 @@ use Rattle.tag.specs.Rules.{blocksOf}
 use Rattle.record.specs.declared.Tag.{Tag}
 use Rattle.record.specs.declared.Outcome.{Outcome}
 use Rattle.tag.specs.Step.{Event}
-use Rattle.tag.specs.Host.{isMemory, EventGiven, eventGiven, EventGives, LoadGiven, loadGiven, LoadGives, SaveGiven, saveGiven, SaveGives}
+use Rattle.tag.specs.Host.{isMemory, isImage, EventGiven, eventGiven, EventGives, LoadGiven, loadGiven, LoadGives, SaveGiven, saveGiven, SaveGives}
 
 -- the blocks of a memory, from its last end
 pub blocks-by-end : (m : List ℕ) → isMemory m ≡ true → blocksOf m ≡ 8 * ((if eqb (length m) 2048 then 63 else 255) + 1)
@@ -21,6 +22,13 @@ blocks-by-end m h =
     or-one (eqb (length m) 2048) (eqb (length m) 8192) h
     (λ e. rw (eqb-true (length m) 2048 e))
     (λ e. rw (eqb-true (length m) 8192 e))
+
+-- an image of a right length is longer than a header
+pub has-header : (i : List ℕ) → isImage i ≡ true → 64 ≤ length i
+has-header i h =
+    or-one (eqb (length i) 2112) (eqb (length i) 8256) h
+    (λ e. omega (arith, eqb-true (length i) 2112 e))
+    (λ e. omega (arith, eqb-true (length i) 8256 e))
 
 -- ---- a call that gives what the definition names
 

@@ -95,10 +95,11 @@ pub fn load(t: Tag, image: &[u8], memory: &mut [u8]) -> Outcome
     if !whole {
         return refuse(Refusal::Image, t);
     }
+    let headed = header_right(image, last_end(memory.len()));
     if !fits {
         return refuse(Refusal::Memory, t);
     }
-    if !header_right(image, last_end(memory.len())) {
+    if !headed {
         return refuse(Refusal::Header, t);
     }
     let tag = reading::load(image, memory);

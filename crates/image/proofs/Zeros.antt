@@ -23,13 +23,13 @@ unfolding numberAt zeros
 zero-number zero s at = refl
 zero-number (suc k) s at = rw (zero-sum, zero-number k s (at + 1))
 
-in-parts : (j k : ℕ) (s : List ℕ) (at : ℕ) → zeros (j + k) s at ≡ (zeros j s at && zeros k s (at + j))
+zeros-in-parts : (j k : ℕ) (s : List ℕ) (at : ℕ) → zeros (j + k) s at ≡ (zeros j s at && zeros k s (at + j))
 unfolding zeros
-in-parts zero k s at = rw (zero-add, add-zero)
-in-parts (suc j) k s at =
+zeros-in-parts zero k s at = rw (zero-add, add-zero)
+zeros-in-parts (suc j) k s at =
     let e : suc j + k ≡ suc (j + k) = omega arith in
     let f : at + suc j ≡ at + 1 + j = omega arith in
-    rw (e, f, in-parts j k s (at + 1)) (go (eqb (getD s at 0) 0) (zeros j s (at + 1)) (zeros k s (at + 1 + j)))
+    rw (e, f, zeros-in-parts j k s (at + 1)) (go (eqb (getD s at 0) 0) (zeros j s (at + 1)) (zeros k s (at + 1 + j)))
   where
     go : (a b c : Bool) → (a && (b && c)) ≡ ((a && b) && c)
     go true b c = refl
@@ -38,7 +38,8 @@ in-parts (suc j) k s at =
 pub two-numbers : (s : List ℕ) → (eqb (numberAt 8 s 51) 0 && eqb (numberAt 8 s 56) 0) ≡ reservedRule s
 unfolding reservedRule
 two-numbers s =
-    rw (zero-number, zero-number, in-parts 5 3 s 51, in-parts 3 5 s 56, in-parts 8 5 s 51, in-parts 5 3 s 51) (go (zeros 5 s 51) (zeros 3 s 56) (zeros 5 s 59))
+    rw (zero-number, zero-number, zeros-in-parts 5 3 s 51, zeros-in-parts 3 5 s 56, zeros-in-parts 8 5 s 51, zeros-in-parts 5 3 s 51)
+    (go (zeros 5 s 51) (zeros 3 s 56) (zeros 5 s 59))
   where
     go : (a b c : Bool) → ((a && b) && (b && c)) ≡ ((a && b) && c)
     go true true c = refl

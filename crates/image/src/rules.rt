@@ -4,7 +4,7 @@ use put::byte_of;
 use put::eight_of;
 use rights::registers::possible_areas;
 ghost use mathlib.Core.Path.{_≡_};
-ghost use Prim.Native.Nat.{_+_, _-_, _*_, _≤_};
+ghost use Prim.Native.Nat.{_+_, _*_, _≤_};
 ghost use lib.ListN.{length};
 ghost use Rattle.tag.specs.Image.{markOf, markRule, lockRule, reservedRule, headerRule};
 

@@ -2,12 +2,12 @@
 -- Assumes nothing.
 use Prim.Native.Nat.{ℕ, zero, suc}
 use native.Mathlib.Omega.{arith}
-use mathlib.Core.Path.{_≡_, refl, sym, _∙_}
+use mathlib.Core.Path.{_≡_, refl, sym}
 use mathlib.Core.Bool.{Bool, true, false, not, _&&_, _||_}
 use mathlib.Core.List.{List}
 use lib.ListN.{getD}
 use lib.Dec.{leb, eqb}
-use borrow.Author.Tests.{eqb-true, lt-leb, not-true, not-false}
+use borrow.Author.Tests.{eqb-true, lt-leb}
 use Rattle.rights.specs.declared.Session.{Session}
 use Rattle.rights.specs.Passwords.{anyOpen}
 use Rattle.rights.specs.Registers.{possible}
@@ -56,14 +56,6 @@ held-no-error zero code h = rw and-true
 held-no-error (suc zero) code h = rw and-true
 held-no-error (suc (suc zero)) code h = absurd (h refl)
 held-no-error (suc (suc (suc b))) code h = rw (lt-leb (suc (suc (suc b))) 1 (omega arith), lt-leb (suc (suc (suc b))) 2 (omega arith))
-
--- ---- a rule that the code tested, by a function that promises it
-
-pub broken : {r a : Bool} → r ≡ a → not r ≡ true → a ≡ false
-broken {r} p f = sym p ∙ not-true r f
-
-pub kept : {r a : Bool} → r ≡ a → not r ≡ false → a ≡ true
-kept {r} p f = sym p ∙ not-false r f
 
 -- ---- all rules, in the order in which they are tested
 

@@ -33,8 +33,8 @@ abbrev pub passingPart : List ℕ → Bool
 passingPart r =
     valuePart r && (roundPart r && (heldPart r && (togetherRule (frontIn r) && offRule (frontIn r) (sessionIn (getD r 66 0)))))
 
--- bytes that were r and are r′: their last eight are the passing parts of t, and the others stay. So where r was a record with the lasting parts
--- of t, r′ is the record of t
+-- bytes that were r and are r′: their last eight are the passing parts of t, and the others stay. It follows that r′ is the record of t where r
+-- was a record with the lasting parts of t; that stands here because it needs bytes to be below 256, which who is lent a slice of them knows
 pub record PassingLeft (t : Tag) (r r′ : List ℕ) : Type 0 where
   pub is : r′ ≡ take 64 r ++ passingOf t
-  pub again : (size blocks : ℕ) → recordRule size blocks r ≡ true → headerOf size t ≡ headerOf size (recordIn r) → r′ ≡ recordOf size t
+  pub whole : (size blocks : ℕ) → recordRule size blocks r ≡ true → headerOf size t ≡ headerOf size (recordIn r) → r′ ≡ recordOf size t

@@ -146,7 +146,7 @@ fn values_right(bytes: &[u8]) -> bool
     (field <= 1) & ((state <= 2) & (session <= 4))
 }
 
-// A round that is "0 none, 1 open", no "slot or mask without a round", and "A round has slot 0 to 15 and mask length at most 60"
+// A round that is "0 none, 1 open", no "slot or mask without a round", and 01's "A round has slot 0 to 15 and mask length at most 60"
 fn round_right(bytes: &[u8]) -> bool
     requires { ⌜ length (now bytes) ≡ recordLength ⌝ }
     ensures { λ r. ⌜ r ≡ roundPart (now (bytes .entry)) ⌝ }
@@ -163,7 +163,8 @@ fn round_right(bytes: &[u8]) -> bool
     false
 }
 
-// A held answer that is "0 none, 1 success, 2 error", no "code without a held error", and "a held answer is success or one error code of this page"
+// A held answer that is "0 none, 1 success, 2 error", no "code without a held error", and 01's "a held answer is success or one error code of
+// this page"
 fn held_right(bytes: &[u8]) -> bool
     requires { ⌜ length (now bytes) ≡ recordLength ⌝ }
     ensures { λ r. ⌜ r ≡ heldPart (now (bytes .entry)) ⌝ }
@@ -176,7 +177,7 @@ fn held_right(bytes: &[u8]) -> bool
     (held <= 1) & (code == 0)
 }
 
-// "A round never stands with a held answer nor in Quiet."
+// 01: "A round never stands with a held answer nor in Quiet."
 fn together_right(bytes: &[u8]) -> bool
     requires { ⌜ length (now bytes) ≡ recordLength ⌝ }
     ensures { λ r. ⌜ r ≡ togetherRule (frontIn (now (bytes .entry))) ⌝ }
@@ -187,7 +188,7 @@ fn together_right(bytes: &[u8]) -> bool
     true
 }
 
-// "With the field off nothing passing is set and the state is Ready."
+// 01: "With the field off nothing passing is set and the state is Ready."
 fn off_right(bytes: &[u8]) -> bool
     requires { ⌜ length (now bytes) ≡ recordLength ⌝ }
     ensures { λ r. ⌜ r ≡ offRule (frontIn (now (bytes .entry))) (sessionIn (getD (now (bytes .entry)) 66 0)) ⌝ }
@@ -203,7 +204,8 @@ fn off_right(bytes: &[u8]) -> bool
 }
 
 // Bytes 64 to 71 as they lie: "a value over those named, a slot or mask without a round, a code without a held error", and the record
-// rules of 01 but those of the areas. No record is made of them first, and each test leads to its own answer, so that a compiler makes a jump of it.
+// rules of 01 but those of the areas. No record is made of them first, and each test leads to its own answer, so that a compiler makes a jump
+// of it.
 fn passing_right(bytes: &[u8]) -> bool
     requires { ⌜ length (now bytes) ≡ recordLength ⌝ }
     ensures { λ r. ⌜ r ≡ passingPart (now (bytes .entry)) ⌝ }

@@ -83,30 +83,31 @@ byte {L} {out₀} {out} {at} h w = record { written = rw (drop-cons L at 0 h, �
 pub last : {L out₀ out : List ℕ} {at : ℕ} → length L ≤ at → Written L (drop at L) out₀ out at → Put L out₀ out at
 last {L} {out₀} {out} {at} h w = whole (rw (drop-of-length-le L h) at w)
 
--- n bytes come next, which are a, and go to the start of what is lent as `&mut out[at..]`
+-- n bytes come next, which are a
+part : {L out₀ out a : List ℕ} {at : ℕ} (n : ℕ) → Written L (drop at L) out₀ out at → a ≡ take n (drop at L) → Next L a (drop (at + n) L) out₀ out at
+part {L} {out₀} {out} {a} {at} n w f =
+    let e : a ++ drop (at + n) L ≡ drop at L = rw (f, ← drop-drop n at L) (take-append-drop n (drop at L)) in
+    record { written = rw e w }
+
+-- they go to the start of what is lent as `&mut out[at..]`
 pub put-part : {L out₀ out a ys : List ℕ} {at k : ℕ} (n : ℕ) → Written L (drop at L) out₀ out at → a ≡ take n (drop at L) → at + n ≤ length L
     → Put a (take (length out - at) (drop at out)) ys k
     → Written L (drop (at + n) L) out₀ (take at out ++ (ys ++ drop (length out - at) (drop at out))) (at + n)
 put-part {L} {out₀} {out} {a} {ys} {at} {k} n w f h p =
     let l : n ≡ length a = sym (rw f (length-take-le n (drop at L) (simp length-drop (omega arith)))) in
-    let e : a ++ drop (at + n) L ≡ drop at L = rw (f, ← drop-drop n at L) (take-append-drop n (drop at L)) in
-    let x : Next L a (drop (at + n) L) out₀ out at = record { written = rw e w } in
     let c : k ≡ n = p .count ∙ sym l in
-    rw c at (more x p)
+    rw c at (more (part n w f) p)
 
 -- room for them
 pub part-room : {L out₀ out a : List ℕ} {at : ℕ} (n : ℕ) → Written L (drop at L) out₀ out at → a ≡ take n (drop at L)
     → length a ≤ length (take (length out - at) (drop at out))
-part-room {L} {out₀} {out} {a} {at} n w f =
-    let e : a ++ drop (at + n) L ≡ drop at L = rw (f, ← drop-drop n at L) (take-append-drop n (drop at L)) in
-    let x : Next L a (drop (at + n) L) out₀ out at = record { written = rw e w } in
-    room x
+part-room n w f = room (part n w f)
 
 -- all that is left
 pub left : {L out₀ out : List ℕ} {at : ℕ} → Written L (drop at L) out₀ out at → Next L (take (length L - at) (drop at L)) [] out₀ out at
 left {L} {out₀} {out} {at} w = record { written = rw (tail L at, append-nil (drop at L)) w }
 
-pub put-last : {L out₀ out ys : List ℕ} {at k : ℕ} → Written L (drop at L) out₀ out at
+pub put-left : {L out₀ out ys : List ℕ} {at k : ℕ} → Written L (drop at L) out₀ out at
     → Put (take (length L - at) (drop at L)) (take (length out - at) (drop at out)) ys k
     → Put L out₀ (take at out ++ (ys ++ drop (length out - at) (drop at out))) (at + k)
-put-last w p = whole (more (left w) p)
+put-left w p = whole (more (left w) p)

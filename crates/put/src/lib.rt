@@ -66,7 +66,7 @@ pub fn number8(s: &[u8], at: u8) -> u64
     join32(number4(s, i), number4(s, i + 4))
 }
 
-// The same of places that are there: no place is tested, so that a compiler makes one load of it.
+// The same of places that are there: no place is tested, so that a compiler makes one load of them.
 fn pair_of(s: &[u8], at: usize) -> u16
     requires { ⌜ at + 1 < length (now s) ⌝ }
     ensures { λ r. ⌜ r ≡ numberAt 2 (now (s .entry)) at ⌝ }
@@ -141,7 +141,7 @@ fn sixteen(s: &[u8]) -> [u8; 16]
     ]
 }
 
-// A part of 512 bytes, in sixteens.
+// A part of 512 bytes, in sixteens: so many turns a compiler unrolls.
 fn copy_part(src: &[u8], out: &mut [u8]) -> usize
     requires { ⌜ length (now src) ≡ 512 ⌝ }
     requires { ⌜ 512 ≤ length (now out) ⌝ }

@@ -1,9 +1,10 @@
 -- Bools by cases.
 -- Assumes nothing.
-use mathlib.Core.Path.{_≡_, refl}
+use mathlib.Core.Path.{_≡_, refl, sym, _∙_}
 use Prim.Native.Nat.{ℕ}
 use native.Mathlib.Omega.{arith}
 use mathlib.Core.Bool.{Bool, true, false, not, _&&_, _||_}
+use borrow.Author.Tests.{not-true, not-false}
 use Rattle.put.specs.If.{if_then_else_}
 
 pub or-true : (b : Bool) → (b || true) ≡ true
@@ -53,3 +54,10 @@ or-one false b e p q = q e
 pub neither : (a b : Bool) → (a || b) ≡ false → (a ≡ false) × (b ≡ false)
 neither true b e = let z : _≡_ {A = ℕ} 0 1 = cc in absurd (omega arith)
 neither false b e = (refl, e)
+
+-- what a function that promises a tests of it, and the code asks whether it does not hold
+pub broken : {r a : Bool} → r ≡ a → not r ≡ true → a ≡ false
+broken {r} p f = sym p ∙ not-true r f
+
+pub kept : {r a : Bool} → r ≡ a → not r ≡ false → a ≡ true
+kept {r} p f = sym p ∙ not-false r f

@@ -33,18 +33,17 @@ use Rattle.tag.proofs.Acts.{blocks-leave}
 use Rattle.step.specs.declared.Said.{Said}
 use Rattle.step.specs.Gives.{Gives, Does, concluded}
 
+-- an answer that is given at once
+pub told : (t : Tag) (a : Answer) {x x′ : List ℕ} {n : ℕ} → Put (lineOf a) x x′ n → Does false t (says a) x x′ (record { length = n; tag = t })
+unfolding perform
+told t a p m = record { result = rw (p .count); memory = refl; room = p .is }
+
 -- a body is answered at once, held or not
 pub shown : (hold : Bool) (t : Tag) (b : List ℕ) {x x′ : List ℕ} {n : ℕ} → Put (lineOf (body b)) x x′ n
     → Does hold t (says (body b)) x x′ (record { length = n; tag = t })
 unfolding perform
 shown true t b p m = record { result = rw (p .count); memory = refl; room = p .is }
-shown false t b p m = record { result = rw (p .count); memory = refl; room = p .is }
-
--- an answer that is given at once
-pub told : (t : Tag) (a : Answer) {x x′ : List ℕ} {n : ℕ} → Put (lineOf a) x x′ n → (m : List ℕ)
-    → Gives (concluded false (perform t m (says a))) x m x′ (record { length = n; tag = t })
-unfolding perform
-told t a p m = record { result = rw (p .count); memory = refl; room = p .is }
+shown false t b p m = told t (body b) p m
 
 -- silence is neither held nor answered
 pub quiet : (hold : Bool) (t : Tag) (m : List ℕ) {x : List ℕ} → Gives (concluded hold (perform t m (says silence))) x m x (record { length = 0; tag = t })
@@ -61,7 +60,10 @@ module _ (hold : Bool) (t : Tag) {x x′ : List ℕ} {r : Said} where
   written (Error c) us e d m = d m
 
   -- a password changed, and a register written, as rights gives them
-  pub password-written : (n w : ℕ) → Does hold (withVault t (withKeys (t .vault) (changeOf (t .vault .keys) n w .keys))) (says (verdict (changedVerdict (changeOf (t .vault .keys) n w .answer)))) x x′ r → Does hold t (granted (changedVerdict (changedOf (t .vault .keys .session) n)) (writes (password n w ∷ []))) x x′ r
+  pub password-written : (n w : ℕ)
+      → Does hold (withVault t (withKeys (t .vault) (changeOf (t .vault .keys) n w .keys)))
+      (says (verdict (changedVerdict (changeOf (t .vault .keys) n w .answer)))) x x′ r
+      → Does hold t (granted (changedVerdict (changedOf (t .vault .keys .session) n)) (writes (password n w ∷ []))) x x′ r
   unfolding applyToTag applyToMemory
   password-written n w d =
       let v = changedVerdict (changedOf (t .vault .keys .session) n) in
@@ -69,7 +71,9 @@ module _ (hold : Bool) (t : Tag) {x x′ : List ℕ} {r : Said} where
       (rw (change-is, verdict-over (λ (k : Keys). withVault t (withKeys (t .vault) k)) v (t .vault .keys) (withPassword (t .vault .keys) n w)) at d)
 
   pub register-written : (e address value : ℕ)
-      → Does hold (withVault t (registerWriteOf e (t .vault) address value .vault)) (says (verdict (writtenVerdict (registerWriteOf e (t .vault) address value .answer)))) x x′ r → Does hold t (granted (writtenVerdict (writtenOf e (viewOf (t .vault)) address value)) (writes (register address value ∷ []))) x x′ r
+      → Does hold (withVault t (registerWriteOf e (t .vault) address value .vault))
+      (says (verdict (writtenVerdict (registerWriteOf e (t .vault) address value .answer)))) x x′ r
+      → Does hold t (granted (writtenVerdict (writtenOf e (viewOf (t .vault)) address value)) (writes (register address value ∷ []))) x x′ r
   unfolding applyToTag applyToMemory
   register-written e address value d =
       let v = writtenVerdict (writtenOf e (viewOf (t .vault)) address value) in
@@ -92,7 +96,9 @@ request-is f v blocks e option fields h =
 
 pub request-gives : (t : Tag) (m : List ℕ) (e : Entry) (option hold : Bool) (fields : List ℕ) {c : Command} {x m′ x′ : List ℕ} {r : Said} → e .command ≡ c
     → hold ≡ (option && isHolding (e .option))
-    → Gives (concluded hold (perform (withFront t (frontAfter c (t .front))) m (actOf c (t .front) (viewOf (t .vault)) (blocksOf m) e option fields))) x m′ x′ r → Gives (performed t m (requestOf (t .front) (viewOf (t .vault)) (blocksOf m) e option fields)) x m′ x′ r
+    → Gives (concluded hold (perform (withFront t (frontAfter c (t .front))) m
+    (actOf c (t .front) (viewOf (t .vault)) (blocksOf m) e option fields))) x m′ x′ r
+    → Gives (performed t m (requestOf (t .front) (viewOf (t .vault)) (blocksOf m) e option fields)) x m′ x′ r
 request-gives t m e option hold fields h k g = rw (request-is (t .front) (viewOf (t .vault)) (blocksOf m) e option fields h, ← k) g
 
 -- ---- the end of a frame, by what is held and by the round
@@ -109,7 +115,8 @@ module _ (t : Tag) (m : List ℕ) {x m′ x′ : List ℕ} {s : Said} where
 -- ---- the field
 
 on-by : (b : Bool) (t : Tag) (m x : List ℕ)
-    → Gives (performed t m (if b then work (t .front) (says silence) else work (passingCleared (t .front) true) closes)) x m x (record { length = 0; tag = if b then t else powered t true })
+    → Gives (performed t m (if b then work (t .front) (says silence) else work (passingCleared (t .front) true) closes)) x m x
+    (record { length = 0; tag = if b then t else powered t true })
 unfolding perform
 on-by true t m x = record { result = refl; memory = refl; room = refl }
 on-by false t m x = record { result = refl; memory = refl; room = refl }

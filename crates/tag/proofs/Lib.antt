@@ -16,7 +16,7 @@ pub mod Bytes
 pub mod Locks
 pub mod Off
 pub mod Headers
-pub mod Lasting
+pub mod OnlyFrames
 pub mod Images
 pub mod Alike
 pub mod Presented

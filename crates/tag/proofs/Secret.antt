@@ -1,4 +1,4 @@
--- Demand 3: the theorem over runs, for any set of passwords and for each of 1, 2 and 3; and the same of a host call and of any number of them.
+-- Demand 3: the theorem over runs, for any set of passwords; and the same of a host call and of any number of them.
 -- Assumes nothing.
 use Prim.Native.Nat.{ℕ, _/_}
 use mathlib.Core.Path.{_≡_, refl, ap, subst}

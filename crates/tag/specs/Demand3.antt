@@ -2,7 +2,7 @@
 -- password makes readable. In neither is its session or the configuration session open. Feed both the same events, of any number, in which
 -- neither tag's chosen password nor its configuration password is presented under its number. By the definition of demand 2, both give the
 -- same bytes and the same silences. They still differ only there, and those passwords and bytes are unchanged."
--- A tag is its record, t or u, with its memory, m or o; p is the password chosen. Words in quotation marks are the demand's, or 01's where 01
+-- A tag is its record, t or u, with its memory, m or o; p is the number of the password chosen. Words in quotation marks are the demand's, or 01's where 01
 -- is named.
 -- Assumes nothing.
 use Prim.Native.Nat.{ℕ, _/_}

@@ -1,8 +1,9 @@
 -- `cabi::uistermo_event` meets its contract: each number in its order, a kind that is none, and what `step` promised.
 -- Assumes nothing.
-use mathlib.Core.Path.{_≡_, refl, sym, _∙_}
+use mathlib.Core.Path.{_≡_, refl}
 use mathlib.Core.Bool.{true}
-use borrow.Author.Tests.{lt-ltb, le-ltb, not-false}
+use borrow.Author.Tests.{lt-ltb, le-ltb}
+use Rattle.rights.proofs.Cases.{kept}
 use Rattle.record.specs.declared.Refusal.the-variants.{None, Memory, Room, Record}
 use Rattle.host.proofs.Lent.{blocks-by-end}
 use Rattle.packed.specs.Bytes.{isRecord}
@@ -37,7 +38,7 @@ returns-3 c =
     let at = c .before .before .before .before .before .before .before .before .before .before .before .before .args in
     let one = c .before .before in
     let lent = one .before .before .before .before .before .if1 .left in
-    let blocks = blocks-by-end (at .memory .now) (sym (one .before .before .before .before .before .before .is-memory .ensures) ∙ not-false _ lent) in
+    let blocks = blocks-by-end (at .memory .now) (kept (one .before .before .before .before .before .before .is-memory .ensures) lent) in
     event-by (eventStays Record (at .bytes .now) (at .memory .now) (at .room .now))
     (rw (
       ← one .before .before .before .before .before .before .is-memory .ensures,
@@ -57,7 +58,7 @@ returns-4 c =
     let at = c .before .before .before .before .before .before .before .before .before .before .before .before .args in
     let one = c .before .before in
     let lent = one .before .before .before .before .before .if1 .left in
-    let blocks = blocks-by-end (at .memory .now) (sym (one .before .before .before .before .before .before .is-memory .ensures) ∙ not-false _ lent) in
+    let blocks = blocks-by-end (at .memory .now) (kept (one .before .before .before .before .before .before .is-memory .ensures) lent) in
     event-by (eventStays None (at .bytes .now) (at .memory .now) (at .room .now))
     (rw (
       ← one .before .before .before .before .before .before .is-memory .ensures,
@@ -75,7 +76,7 @@ returns-4 c =
 step-requires : tie.Need-step-requires
 step-requires c κs =
     let room = c .before .before .before .before .before .before .before .before .before .before .before .before in
-    (sym (room .before .before .is-memory .ensures) ∙ not-false _ (room .before .if1 .left), room .if2 .left)
+    (kept (room .before .before .is-memory .ensures) (room .before .if1 .left), room .if2 .left)
 
 -- a frame: the whole record is written
 returns-5 : tie.Need-returns-5
@@ -84,11 +85,10 @@ returns-5 c =
     let read = done .before .before .before .before in
     let one = read .before .before .before .before .before in
     let at = one .before .before .before .before .before .before .before .before .before .before .args in
-    let memory = sym (one .before .before .before .before .before .before .is-memory .ensures) ∙ not-false _
-    (one .before .before .before .before .before .if1 .left) in
+    let memory = kept (one .before .before .before .before .before .before .is-memory .ensures) (one .before .before .before .before .before .if1 .left) in
     let blocks = blocks-by-end (at .memory .now) memory in
     let right : isRecord (at .memory .now) (at .bytes .now) ≡ true = rw (blocks, ← one .before .last-end .ensures)
-    (sym (one .is-record .ensures) ∙ not-false _ (read .before .before .before .before .if3 .left)) in
+    (kept (one .is-record .ensures) (read .before .before .before .before .if3 .left)) in
     event-taken (done .step .result) memory (one .before .before .before .before .if2 .left) right (le-ltb _ _ (read .before .before .before .if4 .left))
     (rw (← read .read-record .ensures, ← done .before .before .before .kind-in .ensures) (done .step .ensures)) (c .write-record .ensures)
 
@@ -99,11 +99,10 @@ returns-6 c =
     let read = done .before .before .before .before in
     let one = read .before .before .before .before .before in
     let at = one .before .before .before .before .before .before .before .before .before .before .args in
-    let memory = sym (one .before .before .before .before .before .before .is-memory .ensures) ∙ not-false _
-    (one .before .before .before .before .before .if1 .left) in
+    let memory = kept (one .before .before .before .before .before .before .is-memory .ensures) (one .before .before .before .before .before .if1 .left) in
     let blocks = blocks-by-end (at .memory .now) memory in
     let right : isRecord (at .memory .now) (at .bytes .now) ≡ true = rw (blocks, ← one .before .last-end .ensures)
-    (sym (one .is-record .ensures) ∙ not-false _ (read .before .before .before .before .if3 .left)) in
+    (kept (one .is-record .ensures) (read .before .before .before .before .if3 .left)) in
     passing-taken (done .step .result) memory (one .before .before .before .before .if2 .left) right (le-ltb _ _ (read .before .before .before .if4 .left))
     (c .before .before .if5 .left)
     (rw (← read .read-record .ensures, ← done .before .before .before .kind-in .ensures) (done .step .ensures)) (c .write-passing .ensures)

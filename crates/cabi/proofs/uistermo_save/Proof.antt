@@ -1,8 +1,8 @@
 -- `cabi::uistermo_save` meets its contract: each number in its order, and what `image::writing::save` promised.
 -- Assumes nothing.
-use mathlib.Core.Path.{_≡_, refl, sym, _∙_}
+use mathlib.Core.Path.{_≡_, refl}
 use mathlib.Core.Bool.{true}
-use borrow.Author.Tests.{not-false}
+use Rattle.rights.proofs.Cases.{kept}
 use Rattle.record.specs.declared.Refusal.the-variants.{Memory, Record, Image}
 use Rattle.tag.proofs.Sizes.{fitting}
 use Rattle.host.proofs.Lent.{blocks-by-end}
@@ -39,7 +39,7 @@ returns-3 c =
     let at = c .before .before .before .before .before .before .before .before .before .before .before .args in
     let one = c .before .before in
     let fits = one .before .before .before .before in
-    let fit = sym (fits .fits-image .ensures) ∙ not-false _ (one .before .before .before .if2 .left) in
+    let fit = kept (fits .fits-image .ensures) (one .before .before .before .if2 .left) in
     let blocks = blocks-by-end (at .memory .now) (fitting (at .memory .now) (at .image .now) fit .0) in
     save-by (saveStays Record (at .image .now))
     (rw (
@@ -58,9 +58,8 @@ returns-3 c =
 save-requires : tie.Need-save-requires
 save-requires c κs =
     let at = c .before .before .before .before .before .before .before .before .before .before .before .before .before .args in
-    fitting (at .memory .now) (at .image .now)
-    (sym (c .before .before .before .before .before .before .before .before .fits-image .ensures) ∙ not-false _
-    (c .before .before .before .before .before .before .before .if2 .left)) .1
+    let fits = c .before .before .before .before .before .before .before .before in
+    fitting (at .memory .now) (at .image .now) (kept (fits .fits-image .ensures) (c .before .before .before .before .before .before .before .if2 .left)) .1
 
 -- the image is that of the record
 returns-4 : tie.Need-returns-4
@@ -69,11 +68,11 @@ returns-4 c =
     let read = c .before .before .before .before in
     let one = read .before .before .before in
     let fits = one .before .before .before .before in
-    let sized = sym (fits .before .before .is-image .ensures) ∙ not-false _ (fits .before .if1 .left) in
-    let fit = sym (fits .fits-image .ensures) ∙ not-false _ (one .before .before .before .if2 .left) in
+    let sized = kept (fits .before .before .is-image .ensures) (fits .before .if1 .left) in
+    let fit = kept (fits .fits-image .ensures) (one .before .before .before .if2 .left) in
     let blocks = blocks-by-end (at .memory .now) (fitting (at .memory .now) (at .image .now) fit .0) in
     let right : isRecord (at .memory .now) (at .bytes .now) ≡ true = rw (blocks, ← one .before .last-end .ensures)
-    (sym (one .is-record .ensures) ∙ not-false _ (read .before .before .if3 .left)) in
+    (kept (one .is-record .ensures) (read .before .before .if3 .left)) in
     save-taken sized fit right (rw (← read .read-record .ensures) (c .before .before .save .ensures))
 
 pub uistermo-save-spec : {M : Type 1} → statement M

@@ -5,7 +5,7 @@ use Rattle.put.proofs.Proves.{proves}
 use Rattle.frame.proofs.asked.Statement.{statement}
 use Rattle.frame.proofs.asked.Tie as tie
 
--- the entry is that of the code
+-- the row is that of the code
 check7-requires : tie.Need-check7-requires
 check7-requires c κs = rw (c .entry-of .ensures, c .before .code-of .ensures)
 
@@ -14,7 +14,7 @@ returns : tie.Need-returns
 unfolding askedOf
 returns c = rw (← c .before .check7 .ensures, c .if1 .taken)
 
--- the entry is that of the code, and the fields begin within the frame
+-- the row is that of the code, and the fields begin within the frame
 check8-requires : tie.Need-check8-requires
 check8-requires c κs =
     let row = c .before .before in
@@ -27,7 +27,7 @@ returns-2 c =
     let seven = c .before .before in
     rw (← seven .before .check7 .ensures, seven .if1 .left, ← c .before .check8 .ensures, c .if2 .taken)
 
--- the entry is that of the code
+-- the row is that of the code
 check9-requires : tie.Need-check9-requires
 check9-requires c κs =
     let row = c .before .before .before .before in
@@ -41,7 +41,7 @@ returns-3 c =
     let seven = eight .before .before in
     rw (← seven .before .check7 .ensures, seven .if1 .left, ← eight .before .check8 .ensures, eight .if2 .left, ← c .before .check9 .ensures, c .if3 .taken)
 
--- the entry is that of the code
+-- the row is that of the code
 check10-requires : tie.Need-check10-requires
 check10-requires c κs =
     let row = c .before .before .before .before .before .before in

@@ -1,14 +1,13 @@
 -- `host::load` meets its contract: each number in its order, and what `image::reading::load` promised.
 -- Assumes nothing.
-use native.Mathlib.Omega.{arith}
-use mathlib.Core.Path.{refl, sym, _∙_}
+use mathlib.Core.Path.{refl}
 use lib.ListN.{drop}
-use borrow.Author.Tests.{not-false}
+use Rattle.rights.proofs.Cases.{kept}
 use Rattle.record.specs.declared.Refusal.the-variants.{None, Memory, Image, Header}
 use Rattle.tag.specs.Image.{tagIn}
 use Rattle.tag.specs.Host.{outcome, loadRefused, loadGiven}
 use Rattle.tag.proofs.Sizes.{fitting}
-use Rattle.host.proofs.Lent.{blocks-by-end, load-by}
+use Rattle.host.proofs.Lent.{blocks-by-end, has-header, load-by}
 use borrow.Author.Needs.{needs}
 use Rattle.host.proofs.load.Statement.{statement}
 use Rattle.host.proofs.load.Tie as tie
@@ -20,43 +19,41 @@ returns c =
     let at = c .before .before .before .before .before .before .args in
     load-by (loadRefused Image (at .t) (at .memory .now)) (rw (← c .before .before .before .is-image .ensures, c .before .if1 .taken)) (c .refuse .ensures) refl
 
+-- an image of such a length has a header
+header-right-requires : tie.Need-header-right-requires
+header-right-requires c κs = has-header (c .before .before .before .before .before .before .args .image .now)
+    (kept (c .before .before .before .is-image .ensures) (c .before .if1 .left))
+
 -- 1: the memory
 returns-2 : tie.Need-returns-2
 unfolding loadGiven
 returns-2 c =
-    let at = c .before .before .before .before .before .before .before .args in
+    let at = c .before .before .before .before .before .before .before .before .before .args in
     load-by (loadRefused Memory (at .t) (at .memory .now))
     (rw (
-      ← c .before .before .before .before .is-image .ensures,
-      c .before .before .if1 .left,
-      ← c .before .before .before .fits-image .ensures,
+      ← c .before .before .before .before .before .before .is-image .ensures,
+      c .before .before .before .before .if1 .left,
+      ← c .before .before .before .before .before .fits-image .ensures,
       c .before .if2 .taken,
     ))
     (c .refuse2 .ensures) refl
-
--- an image that fits has a header
-header-right-requires : tie.Need-header-right-requires
-header-right-requires c κs =
-    let at = c .before .before .before .before .before .before .before .args in
-    let fit = sym (c .before .before .before .fits-image .ensures) ∙ not-false _ (c .before .if2 .left) in
-    omega (arith, fitting (at .memory .now) (at .image .now) fit .1)
 
 -- 5: the header
 returns-3 : tie.Need-returns-3
 unfolding loadGiven
 returns-3 c =
     let at = c .before .before .before .before .before .before .before .before .before .before .args in
-    let header = c .before .before in
-    let whole = header .before .before .before .if1 .left in
-    let fits = header .before .before .before .before in
-    let fit = sym (fits .fits-image .ensures) ∙ not-false _ (header .before .before .if2 .left) in
+    let header = c .before .before .before in
+    let whole = header .before .before .if1 .left in
+    let fits = header .before .before .before in
+    let fit = kept (fits .fits-image .ensures) (c .before .before .if2 .left) in
     let blocks = blocks-by-end (at .memory .now) (fitting (at .memory .now) (at .image .now) fit .0) in
     load-by (loadRefused Header (at .t) (at .memory .now))
     (rw (
       ← fits .before .is-image .ensures,
       whole,
       ← fits .fits-image .ensures,
-      header .before .before .if2 .left,
+      c .before .before .if2 .left,
       blocks,
       ← header .before .last-end .ensures,
       ← header .header-right .ensures,
@@ -64,22 +61,21 @@ returns-3 c =
     ))
     (c .refuse3 .ensures) refl
 
--- it has 64 bytes more than the memory
+-- the image has 64 bytes more than the memory
 load-requires : tie.Need-load-requires
 load-requires c κs =
     let at = c .before .before .before .before .before .before .before .before .before .before .args in
-    fitting (at .memory .now) (at .image .now)
-    (sym (c .before .before .before .before .before .before .fits-image .ensures) ∙ not-false _ (c .before .before .before .before .if2 .left)) .1
+    fitting (at .memory .now) (at .image .now) (kept (c .before .before .before .before .before .before .fits-image .ensures) (c .before .before .if2 .left)) .1
 
 -- none of these: the image is loaded
 returns-4 : tie.Need-returns-4
 unfolding loadGiven
 returns-4 c =
     let at = c .before .before .before .before .before .before .before .before .before .before .before .before .before .args in
-    let header = c .before .before .before .before .before in
-    let whole = header .before .before .before .if1 .left in
-    let fits = header .before .before .before .before in
-    let fit = sym (fits .fits-image .ensures) ∙ not-false _ (header .before .before .if2 .left) in
+    let header = c .before .before .before .before .before .before in
+    let whole = header .before .before .if1 .left in
+    let fits = header .before .before .before in
+    let fit = kept (fits .fits-image .ensures) (c .before .before .before .before .before .if2 .left) in
     let blocks = blocks-by-end (at .memory .now) (fitting (at .memory .now) (at .image .now) fit .0) in
     let loaded = c .before .before .load .ensures in
     load-by (record { result = outcome None 0 (tagIn (at .image .now)); memory = drop 64 (at .image .now) })
@@ -87,7 +83,7 @@ returns-4 c =
       ← fits .before .is-image .ensures,
       whole,
       ← fits .fits-image .ensures,
-      header .before .before .if2 .left,
+      c .before .before .before .before .before .if2 .left,
       blocks,
       ← header .before .last-end .ensures,
       ← header .header-right .ensures,
@@ -104,9 +100,9 @@ load-spec =
     (λ c κs. search needs)
     returns
     (λ c κs. search needs)
-    returns-2
-    (λ c κs. search needs)
     header-right-requires
+    (λ c κs. search needs)
+    returns-2
     (λ c κs. search needs)
     returns-3
     load-requires

@@ -13,7 +13,7 @@ returns c =
     let code = c .before .before in
     rw (← code .before .byte-of .ensures, c .before .if1 .taken, ← code .byte-of2 .ensures) (c .is-code .ensures)
 
--- none
+-- no error, so no code
 returns-2 : tie.Need-returns-2
 returns-2 c =
     let code = c .before in

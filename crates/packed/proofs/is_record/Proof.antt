@@ -2,7 +2,8 @@
 -- Assumes nothing.
 use borrow.Author.Needs.{needs}
 use Rattle.image.proofs.Ends.{last-end}
-use Rattle.packed.proofs.InBytes.{broken, kept, record-in-parts}
+use Rattle.rights.proofs.Cases.{broken, kept}
+use Rattle.packed.proofs.InBytes.{record-in-parts}
 use Rattle.packed.proofs.is_record.Statement.{statement}
 use Rattle.packed.proofs.is_record.Tie as tie
 

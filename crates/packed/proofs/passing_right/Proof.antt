@@ -1,7 +1,7 @@
 -- `packed::passing_right` meets its contract: the tests stand in the order of `passingPart`, and the first that fails decides.
 -- Assumes nothing.
 use borrow.Author.Needs.{needs}
-use Rattle.packed.proofs.InBytes.{broken, kept}
+use Rattle.rights.proofs.Cases.{broken, kept}
 use Rattle.packed.proofs.passing_right.Statement.{statement}
 use Rattle.packed.proofs.passing_right.Tie as tie
 

@@ -9,6 +9,7 @@ use Rattle.packed.proofs.read_record.Tie as tie
 read-front-requires : tie.Need-read-front-requires
 read-front-requires c κs = (c .before .before .before .before .pre, rw (c .before .before .read-header .ensures))
 
+-- and so is this one
 read-vault-requires : tie.Need-read-vault-requires
 read-vault-requires c κs = (c .before .before .before .before .before .pre, rw (c .before .before .before .read-header .ensures))
 

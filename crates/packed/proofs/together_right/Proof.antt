@@ -14,7 +14,7 @@ returns c =
     let round = c .before .before .before .byte-of in
     rw (no-round-in, none-held-in, quiet-in, ← round .ensures, c .before .before .if1 .taken, c .before .byte-of2 .ensures, c .byte-of3 .ensures)
 
--- none
+-- no round
 returns-2 : tie.Need-returns-2
 unfolding togetherRule
 returns-2 c = rw (no-round-in, ← c .before .byte-of .ensures, ne-eqb _ _ (c .if1 .left))

@@ -19,7 +19,7 @@ returns c =
     let r = start .args .bytes .now in
     let is = passing-put t r (passing .passing .ensures) (copied .copy .ensures) (start .pre) in
     let byte : (n : ℕ) → getD r n 0 < 256 = λ n. omega (arith, passing .before .slice-known .given n) in
-    record { is = is; again = λ size blocks rule same. is ∙ header-stood size blocks t r byte (start .pre) rule same }
+    record { is = is; whole = λ size blocks rule same. is ∙ header-stood size blocks t r byte (start .pre) rule same }
 
 pub write-passing-spec : {M : Type 1} → statement M
 write-passing-spec =

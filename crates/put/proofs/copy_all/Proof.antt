@@ -7,7 +7,7 @@ use borrow.Author.Needs.{needs}
 use lib.ListN.{length, drop, length-drop}
 use lib.Seq.{length-take-le}
 use Rattle.put.proofs.Lists.{tail-room}
-use Rattle.put.proofs.Written.{Written, none, put-part, left, room, more, put-last}
+use Rattle.put.proofs.Written.{Written, none, put-part, left, room, more, put-left}
 use Rattle.put.proofs.copy_all.Statement.{statement}
 use Rattle.put.proofs.copy_all.Tie as tie
 
@@ -25,6 +25,7 @@ loop-holds c = (none (c .before .before .pre), omega arith)
 sub-loop : tie.Need-sub-loop Inv-loop μ-loop
 sub-loop c = omega arith
 
+-- the part begins within src
 sub-copy-part : tie.Need-sub-copy-part Inv-loop μ-loop
 sub-copy-part c = omega arith
 
@@ -54,9 +55,11 @@ loop-again c =
     let size : at .i + 512 - at .i ≡ 512 = omega arith in
     (put-part 512 (at .inv .0) (rw size) (omega arith) (c .before .before .copy-part .ensures), omega arith)
 
+-- what is left begins within src
 sub-copy : tie.Need-sub-copy Inv-loop μ-loop
 sub-copy c = omega arith
 
+-- and within out
 sub-copy-2 : tie.Need-sub-copy-2 Inv-loop μ-loop
 sub-copy-2 c = c .before .before .loop .inv .0 .within
 
@@ -71,7 +74,7 @@ same-length c = more (left (c .before .before .before .before .before .before .l
 -- with what was left, all is written
 returns : tie.Need-returns Inv-loop μ-loop
 returns c =
-    let all = put-last (c .before .before .before .before .before .before .loop .inv .0) (c .before .before .copy .ensures) in
+    let all = put-left (c .before .before .before .before .before .before .loop .inv .0) (c .before .before .copy .ensures) in
     record { count = refl; is = all .is }
 
 pub copy-all-spec : {M : Type 1} → statement M

@@ -37,6 +37,7 @@ sub-take c =
     let h = rw (f .form4 .given .1) at (f .before .before .before .before .before .before .pre .0) in
     h .0
 
+-- the same, of what is lent
 part-take-start : tie.Need-part-take-start
 part-take-start c =
     let f = c .before .before in

@@ -14,6 +14,7 @@ slice-relend-prefix-act c =
     let s = d .before .before .before .before .before .before .before .before in
     memory-within _ (s .pre .0) (d .before .before .before .form-of .ensures) (d .lend .ensures .much) (search needs)
 
+-- the same, of what is lent
 slice-aggregate-act : tie.Need-slice-aggregate-act
 slice-aggregate-act c =
     let d = c .before .before .before .before .before .before in
@@ -27,6 +28,7 @@ slice-relend-prefix-act-2 c =
     let s = d .before .before .before .before .before .before .before .before in
     room-within _ (s .pre .0) (d .before .before .before .form-of .ensures) (d .lend .ensures .much) (search needs)
 
+-- the same, of what is lent
 slice-aggregate-act-2 : tie.Need-slice-aggregate-act-2
 slice-aggregate-act-2 c =
     let d = c .before .before .before .before .before .before .before in
@@ -43,7 +45,7 @@ act-requires c κs =
       record { of-room = room-most _ (s .pre .0) f (d .lend .ensures .much) _ (search needs); of-out = s .pre .1 .1 },
     )
 
--- and so does what is lent after it
+-- what is lent after the line lies within the buffers, and the answer line within out
 returns : tie.Need-returns
 returns c =
     let d = c .before .before .before .before .before .before .before .before .before .before .before .before .before .before .before in

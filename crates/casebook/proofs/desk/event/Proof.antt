@@ -17,6 +17,7 @@ put-bytes-requires c κs = omega (arith, bytes-length (c .before .before .before
 array-share-prefix-frame : tie.Need-array-share-prefix-frame
 array-share-prefix-frame c = put-within (c .before .before .before .before .put-bytes .ensures)
 
+-- the same, of what is lent
 slice-aggregate-uistermo-event : tie.Need-slice-aggregate-uistermo-event
 slice-aggregate-uistermo-event c = sym (length-take-le _ _ (put-within (c .before .before .before .before .before .put-bytes .ensures)))
 

@@ -17,6 +17,7 @@ put-bytes-requires c κs = omega (arith, bytes-length (c .before .before .before
 array-share-prefix-image : tie.Need-array-share-prefix-image
 array-share-prefix-image c = put-within (c .before .before .put-bytes .ensures)
 
+-- the same, of what is lent
 slice-aggregate-uistermo-load : tie.Need-slice-aggregate-uistermo-load
 slice-aggregate-uistermo-load c = sym (length-take-le _ _ (put-within (c .before .before .before .put-bytes .ensures)))
 

@@ -18,6 +18,7 @@ Inv-loop s most n₀ i₀ n i = (n ≤ most) × (numberFrom most n (drop i s) �
 abbrev μ-loop : tie.MeasureT-loop
 μ-loop s most n₀ i₀ n i = length s - i
 
+-- nothing is looked at yet
 loop-holds : tie.Need-loop-holds Inv-loop μ-loop
 loop-holds c = (omega arith, refl)
 
@@ -28,6 +29,10 @@ returns c =
     let e = sym (c .before .is-figure .ensures) ∙ not-true _ (c .if1 .taken) in
     sym (no-figure _ _ _ _ (t .loop-test .taken) e) ∙ t .before .loop .inv .1
 
+-- ten times a number of the range does not wrap
+mul-n : tie.Need-mul-n Inv-loop μ-loop
+mul-n c = omega arith
+
 -- a figure is 0 to 9
 sub-n : tie.Need-sub-n Inv-loop μ-loop
 sub-n c =
@@ -35,12 +40,14 @@ sub-n c =
     let e = sym (c .before .is-figure .ensures) ∙ not-false _ (c .if1 .left) in
     omega (arith, figure-range (getD (t .before .before .args .s .now) (t .loop .i) 0) e .0)
 
+-- and so a small number
 cast-n : tie.Need-cast-n Inv-loop μ-loop
 cast-n c =
     let t = c .before .before .before .before in
     let e = sym (c .before .is-figure .ensures) ∙ not-false _ (c .if1 .left) in
     omega (arith, figure-range (getD (t .before .before .args .s .now) (t .loop .i) 0) e .1)
 
+-- the number with it does not wrap
 add-n : tie.Need-add-n Inv-loop μ-loop
 add-n c =
     let t = c .before .before .before .before in
@@ -73,7 +80,7 @@ number-from-spec =
     (λ c. search needs)
     (λ c κs. search needs)
     returns
-    (λ c. omega arith)
+    mul-n
     sub-n
     cast-n
     add-n

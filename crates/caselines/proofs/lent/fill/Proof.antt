@@ -34,6 +34,7 @@ loop-again c =
     let h : c .before .loop .i < length s = omega (arith, c .loop-test .taken, w .same) in
     stored (sym (getD-replicate (length s) (c .before .loop .i) (c .before .before .args .value) 0 h)) (byte (simp length-replicate h) w)
 
+-- the buffer is as long as it was
 same-length : tie.Need-same-length Inv-loop μ-loop
 same-length c = c .before .loop .inv .same
 

@@ -21,6 +21,7 @@ slice-write-out c =
     let s = c .before .before .before .before .before .before in
     end-within (s .args .end) (c .before .before .put-hex-or .ensures) (s .pre)
 
+-- its place after that does not wrap
 add-result : tie.Need-add-result
 add-result c =
     let s = c .before .before .before .before .before .before in

@@ -19,6 +19,7 @@ put-decimal-requires c κs =
 slice-write-out : tie.Need-slice-write-out
 slice-write-out c = end-within 0x20 (c .before .before .put-decimal .ensures) (c .before .before .before .before .before .pre)
 
+-- its place after that does not wrap
 add-result : tie.Need-add-result
 add-result c = omega (arith, end-within 0x20 (c .before .before .put-decimal .ensures) (c .before .before .before .before .before .pre))
 

@@ -20,6 +20,7 @@ put-number-requires c κs =
 sub-put-number : tie.Need-sub-put-number
 sub-put-number c = put-within (c .before .before .put-number .ensures)
 
+-- the same, of what is lent
 part-put-number-start : tie.Need-part-put-number-start
 part-put-number-start c = put-within (c .before .before .put-number .ensures)
 

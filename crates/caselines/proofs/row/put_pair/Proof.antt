@@ -19,6 +19,7 @@ put-field-requires c κs =
 sub-put-field : tie.Need-sub-put-field
 sub-put-field c = put-within (c .before .before .put-field .ensures)
 
+-- the same, of what is lent
 part-put-field-start : tie.Need-part-put-field-start
 part-put-field-start c = put-within (c .before .before .put-field .ensures)
 

@@ -1,4 +1,4 @@
--- `caselines::row::put_rest` meets its contract: answer and record, and the sums after it.
+-- `caselines::row::put_rest` meets its contract: answer and record, and the sums after them.
 -- Assumes nothing.
 use native.Mathlib.Omega.{arith}
 use Rattle.text.proofs.Pieces.{put-within}
@@ -18,6 +18,7 @@ put-pair-requires c κs =
 sub-put-sums : tie.Need-sub-put-sums
 sub-put-sums c = put-within (c .before .before .put-pair .ensures)
 
+-- the same, of what is lent
 part-put-sums-start : tie.Need-part-put-sums-start
 part-put-sums-start c = put-within (c .before .before .put-pair .ensures)
 

@@ -1,4 +1,4 @@
--- `caselines::row::put_row` meets its contract: the numbers, and all else after it.
+-- `caselines::row::put_row` meets its contract: the numbers, and all else after them.
 -- Assumes nothing.
 use native.Mathlib.Omega.{arith}
 use Rattle.text.proofs.Pieces.{put-within}
@@ -20,6 +20,7 @@ put-numbers-requires c κs =
 sub-put-rest : tie.Need-sub-put-rest
 sub-put-rest c = put-within (c .before .before .put-numbers .ensures)
 
+-- the same, of what is lent
 part-put-rest-start : tie.Need-part-put-rest-start
 part-put-rest-start c = put-within (c .before .before .put-numbers .ensures)
 

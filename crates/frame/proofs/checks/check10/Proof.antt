@@ -5,7 +5,7 @@ use Rattle.put.proofs.Proves.{proves}
 use Rattle.frame.proofs.checks.check10.Statement.{statement}
 use Rattle.frame.proofs.checks.check10.Tie as tie
 
--- the entry that is lent is the code's
+-- the row that is handed in is the code's
 returns : tie.Need-returns
 unfolding check10
 returns c = rw (c .before .flag-bit .ensures, c .takes-none .ensures, c .before .before .before .pre)

@@ -5,7 +5,7 @@ use Rattle.put.proofs.Proves.{proves}
 use Rattle.frame.proofs.checks.check7.Statement.{statement}
 use Rattle.frame.proofs.checks.check7.Tie as tie
 
--- the entry that is lent is the code's
+-- the row that is handed in is the code's
 returns : tie.Need-returns
 unfolding check7
 returns c = rw (c .is-unlisted .ensures, c .before .before .pre)

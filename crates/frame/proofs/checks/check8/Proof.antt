@@ -5,7 +5,7 @@ use Rattle.put.proofs.Proves.{proves}
 use Rattle.frame.proofs.checks.check8.Statement.{statement}
 use Rattle.frame.proofs.checks.check8.Tie as tie
 
--- the length of the fields, beside that of the entry
+-- the length of the fields, beside that of the row
 returns : tie.Need-returns
 unfolding check8
 returns c =

@@ -5,7 +5,7 @@ use Rattle.put.proofs.Proves.{proves}
 use Rattle.frame.proofs.checks.check9.Statement.{statement}
 use Rattle.frame.proofs.checks.check9.Tie as tie
 
--- the entry that is lent is the code's
+-- the row that is handed in is the code's
 returns : tie.Need-returns
 unfolding check9
 returns c = rw (c .before .addressed-only .ensures, c .before .before .before .pre, c .flag-bit .ensures)
