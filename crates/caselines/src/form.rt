@@ -8,7 +8,8 @@ ghost use mathlib.Core.Path.{_≡_};
 ghost use Prim.Native.Nat.{_≤_};
 ghost use lib.ListN.{drop};
 ghost use Rattle.caselines.specs.Limits.{memoryMost, roomMost, imageMost};
-ghost use Rattle.caselines.specs.Form.{begins, numberFrom, numberIn, memoryOf, roomOf, saveOf, isHex, recordForm, requestForm, loadForm, spaceIn, placedForm, bytesForm, hexForm, numberForm, formOf};
+ghost use Rattle.caselines.specs.Form.{begins, numberFrom, numberIn, memoryOf, roomOf, saveOf, isHex, recordForm, requestForm, loadForm};
+ghost use Rattle.caselines.specs.Form.{spaceIn, placedForm, bytesForm, hexForm, numberForm, formOf};
 
 // The kinds of an event, as cabi numbers them.
 const ON: u32 = 0;

@@ -1,10 +1,11 @@
 -- `cabi::uistermo_event` meets its contract: each number in its order, a kind that is none, and what `step` promised.
 -- Assumes nothing.
-use mathlib.Core.Path.{_≡_, refl}
+use mathlib.Core.Path.{_≡_, refl, sym, _∙_}
 use mathlib.Core.Bool.{true}
-use borrow.Author.Tests.{lt-ltb, le-ltb}
+use borrow.Author.Tests.{lt-ltb, le-ltb, not-false}
 use Rattle.rights.proofs.Cases.{kept}
 use Rattle.record.specs.declared.Refusal.the-variants.{None, Memory, Room, Record}
+use Rattle.tag.specs.Host.{isMemory}
 use Rattle.host.proofs.Lent.{blocks-by-end}
 use Rattle.packed.specs.Bytes.{isRecord}
 use Rattle.cabi.specs.Calls.{eventStays, eventLeft}
@@ -12,6 +13,24 @@ use Rattle.cabi.proofs.Left.{event-by, event-taken, passing-taken}
 use borrow.Author.Needs.{needs}
 use Rattle.cabi.proofs.uistermo_event.Statement.{statement}
 use Rattle.cabi.proofs.uistermo_event.Tie as tie
+
+-- where the call began, of the place after `is_record`
+abbrev start : tie.After-is-record → tie.Start
+start c = c .before .before .before .before .before .before .before .before .before .before
+
+-- the memory that is lent is one
+memory-lent : (c : tie.After-is-record) → isMemory (start c .args .memory .now) ≡ true
+memory-lent c = kept (c .before .before .before .before .before .before .is-memory .ensures) (c .before .before .before .before .before .if1 .left)
+
+-- and it was asked whether the bytes are a record beside it
+asked : (c : tie.After-is-record) → isRecord (start c .args .memory .now) (start c .args .bytes .now) ≡ c .is-record .result
+asked c =
+    let blocks = blocks-by-end (start c .args .memory .now) (memory-lent c) in
+    rw (blocks, ← c .before .last-end .ensures) (sym (c .is-record .ensures))
+
+-- they are one
+record-lent : (c : tie.Else3) → isRecord (start (c .before) .args .memory .now) (start (c .before) .args .bytes .now) ≡ true
+record-lent c = asked (c .before) ∙ not-false _ (c .if3 .left)
 
 -- 1: the memory
 returns : tie.Need-returns
@@ -37,18 +56,8 @@ unfolding eventLeft
 returns-3 c =
     let at = c .before .before .before .before .before .before .before .before .before .before .before .before .args in
     let one = c .before .before in
-    let lent = one .before .before .before .before .before .if1 .left in
-    let blocks = blocks-by-end (at .memory .now) (kept (one .before .before .before .before .before .before .is-memory .ensures) lent) in
     event-by (eventStays Record (at .bytes .now) (at .memory .now) (at .room .now))
-    (rw (
-      ← one .before .before .before .before .before .before .is-memory .ensures,
-      lent,
-      le-ltb _ _ (one .before .before .before .before .if2 .left),
-      blocks,
-      ← one .before .last-end .ensures,
-      ← one .is-record .ensures,
-      c .before .if3 .taken,
-    ))
+    (rw (memory-lent one, le-ltb _ _ (one .before .before .before .before .if2 .left), asked one, c .before .if3 .taken))
     (c .refused3 .ensures) refl refl refl
 
 -- none of these, and no event
@@ -57,19 +66,8 @@ unfolding eventLeft
 returns-4 c =
     let at = c .before .before .before .before .before .before .before .before .before .before .before .before .args in
     let one = c .before .before in
-    let lent = one .before .before .before .before .before .if1 .left in
-    let blocks = blocks-by-end (at .memory .now) (kept (one .before .before .before .before .before .before .is-memory .ensures) lent) in
     event-by (eventStays None (at .bytes .now) (at .memory .now) (at .room .now))
-    (rw (
-      ← one .before .before .before .before .before .before .is-memory .ensures,
-      lent,
-      le-ltb _ _ (one .before .before .before .before .if2 .left),
-      blocks,
-      ← one .before .last-end .ensures,
-      ← one .is-record .ensures,
-      c .before .if3 .left,
-      lt-ltb _ _ (c .if4 .taken),
-    ))
+    (rw (memory-lent one, le-ltb _ _ (one .before .before .before .before .if2 .left), record-lent (c .before), lt-ltb _ _ (c .if4 .taken)))
     refl refl refl refl
 
 -- what was tested is what `step` asks for
@@ -84,12 +82,8 @@ returns-5 c =
     let done = c .before .before .before .before .before .before .before .before in
     let read = done .before .before .before .before in
     let one = read .before .before .before .before .before in
-    let at = one .before .before .before .before .before .before .before .before .before .before .args in
-    let memory = kept (one .before .before .before .before .before .before .is-memory .ensures) (one .before .before .before .before .before .if1 .left) in
-    let blocks = blocks-by-end (at .memory .now) memory in
-    let right : isRecord (at .memory .now) (at .bytes .now) ≡ true = rw (blocks, ← one .before .last-end .ensures)
-    (kept (one .is-record .ensures) (read .before .before .before .before .if3 .left)) in
-    event-taken (done .step .result) memory (one .before .before .before .before .if2 .left) right (le-ltb _ _ (read .before .before .before .if4 .left))
+    event-taken (done .step .result) (memory-lent one) (one .before .before .before .before .if2 .left) (record-lent (read .before .before .before .before))
+    (le-ltb _ _ (read .before .before .before .if4 .left))
     (rw (← read .read-record .ensures, ← done .before .before .before .kind-in .ensures) (done .step .ensures)) (c .write-record .ensures)
 
 -- no frame: its passing parts
@@ -98,13 +92,8 @@ returns-6 c =
     let done = c .before .before .before .before .before .before .before .before in
     let read = done .before .before .before .before in
     let one = read .before .before .before .before .before in
-    let at = one .before .before .before .before .before .before .before .before .before .before .args in
-    let memory = kept (one .before .before .before .before .before .before .is-memory .ensures) (one .before .before .before .before .before .if1 .left) in
-    let blocks = blocks-by-end (at .memory .now) memory in
-    let right : isRecord (at .memory .now) (at .bytes .now) ≡ true = rw (blocks, ← one .before .last-end .ensures)
-    (kept (one .is-record .ensures) (read .before .before .before .before .if3 .left)) in
-    passing-taken (done .step .result) memory (one .before .before .before .before .if2 .left) right (le-ltb _ _ (read .before .before .before .if4 .left))
-    (c .before .before .if5 .left)
+    passing-taken (done .step .result) (memory-lent one) (one .before .before .before .before .if2 .left)
+    (record-lent (read .before .before .before .before)) (le-ltb _ _ (read .before .before .before .if4 .left)) (c .before .before .if5 .left)
     (rw (← read .read-record .ensures, ← done .before .before .before .kind-in .ensures) (done .step .ensures)) (c .write-passing .ensures)
 
 pub uistermo-event-spec : {M : Type 1} → statement M
