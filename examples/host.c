@@ -176,11 +176,11 @@ static int factory(struct tag *t, const char *mark, const char *word, const char
     uint64_t uid = 0;
     for (size_t i = 0; i < sizeof bytes; i++)
         uid = uid << 8 | bytes[i];
-    t->size = strcmp(mark, "1") == 0 ? UISTERMO_MEMORY_16K : UISTERMO_MEMORY_64K;
-    if (!uistermo_factory((uint32_t)(strlen(mark) == 1 ? mark[0] - '0' : 0), uid, t->record))
+    if (strcmp(mark, "1") != 0 && strcmp(mark, "2") != 0)
         return fail(mark, "a size mark is 1 (16 Kbit) or 2 (64 Kbit)");
-    memset(t->memory, 0, t->size);
-    return save(t, out);
+    t->size = strcmp(mark, "1") == 0 ? UISTERMO_MEMORY_16K : UISTERMO_MEMORY_64K;
+    uint32_t number = uistermo_refusal(uistermo_factory(t->record, uid, t->memory, t->size));
+    return number ? refused(mark, number) : save(t, out);
 }
 
 int main(int count, char **words)

@@ -16,7 +16,8 @@
  * - No other thread touches them during the call.
  * That is all. Any bytes, lengths and numbers are taken: what does not fit is refused, and bytes that are no record are refusal 3.
  *
- * The library keeps nothing between calls, allocates nothing and calls nothing outside itself. Each call ends, and may come from any thread.
+ * The library keeps nothing between calls, allocates nothing, and calls nothing outside itself but memset, which uistermo_factory fills the
+ * memory with. Each call ends, and may come from any thread.
  */
 #ifndef UISTERMO_H
 #define UISTERMO_H
@@ -31,7 +32,7 @@ extern "C" {
 /* The length of a record. A later version may lengthen it: write this name, not the number. */
 #define UISTERMO_RECORD 72
 
-/* The two sizes of tag: size mark, memory, image (a header and the memory). */
+/* The two sizes of tag: size mark (byte 0 of an image), memory, image (a header and the memory). */
 #define UISTERMO_MARK_16K 1
 #define UISTERMO_MARK_64K 2
 #define UISTERMO_MEMORY_16K 2048
@@ -83,10 +84,13 @@ uint64_t uistermo_save(const uint8_t record[UISTERMO_RECORD], const uint8_t *mem
                        size_t image_length);
 
 /*
- * Makes the record of a factory tag with the field off, for a size mark and a UID, whose lowest byte travels first. Its memory is
- * zero bytes; the host fills them. Gives 1, or 0 for another mark than those above, and then nothing is changed.
+ * Makes a factory tag of the memory's size, with the field off: fills memory with zeros and makes the record, for a UID whose lowest byte
+ * travels first. The bytes that were in record and memory do not matter. The length is 0. Checks 1: "user memory lent is not 2,048 or 8,192
+ * bytes".
+ * The call of this name in earlier versions took a size mark and no memory, and gave 1 for success; this one gives 0, as every call here
+ * that is not refused and has no length.
  */
-uint32_t uistermo_factory(uint32_t mark, uint64_t uid, uint8_t record[UISTERMO_RECORD]);
+uint64_t uistermo_factory(uint8_t record[UISTERMO_RECORD], uint64_t uid, uint8_t *memory, size_t memory_length);
 
 #ifdef __cplusplus
 }

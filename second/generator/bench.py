@@ -14,7 +14,7 @@ def hexed(data):
 
 
 def is_call(answer):
-    """Whether this answer line is that of an event, a load or a save."""
+    """Whether this answer line is that of an event, a load, a save or a factory tag."""
     return answer not in ("ok", "?")
 
 

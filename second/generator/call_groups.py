@@ -1,13 +1,13 @@
-"""Groups about host calls: broken records, unsuitable buffers, images, and lines of no form."""
+"""Groups about host calls: broken records, unsuitable buffers, images, factory tags, and lines of no form."""
 
 from tagmodel import boundary
 from tagmodel.casebook import MOST_IMAGE
 from tagmodel.crc import with_crc
 from tagmodel.sizes import LONGEST_ANSWER, SIZES
 
-from . import scenes
+from . import frames, scenes
 from .bench import hexed
-from .noforms import no_form_lines
+from .noforms import factory_no_form_lines, no_form_lines
 
 MEMORY_LENGTHS = (0, 1, 2047, 2049, 2112, 8191, 8193, 9000)
 ROOM_LENGTHS = (0, 1, 10242, 2048)
@@ -104,3 +104,58 @@ def no_forms(bench, variant):
         bench.say(line)
     bench.any_event()
     bench.say(b"SAVE 2112")
+
+
+def make_factory_tag(bench):
+    """FACTORY with any UID, or with one whose bytes are known."""
+    uids = [bench.dice.bytes(8), bench.dice.bytes(8), scenes.SESSION_UID, bytes(8), b"\xFF" * 8]
+    bench.say(b"FACTORY " + hexed(bench.dice.choose(uids)))
+
+
+def set_no_record(bench):
+    """72 bytes that are no record: one rule broken, all FFh, or any bytes."""
+    record = scenes.plain(bench.dice, SIZES[0])
+    bench.dice.choose(scenes.RECORD_BREAKS)(record)
+    bench.set_record(bench.dice.choose([record, record, b"\xFF" * boundary.RECORD_BYTES,
+                                        bench.dice.bytes(boundary.RECORD_BYTES)]))
+
+
+def factory_tags(bench, variant):
+    """Factory tags over a tag in use and over what is no record, in any room; refused ones; lines of no form."""
+    size = SIZES[variant % 2]
+    bench.open_scene(size=size)
+    bench.say(b"PUT 0 " + hexed(bench.dice.bytes(16)))
+    make_factory_tag(bench)
+    use_factory_tag(bench)
+    make_factory_tag(bench)
+    if bench.dice.one_in(4):
+        bench.say(b"SAVE %d" % size.image_bytes)
+    bench.say(b"PUT %d " % bench.dice.below(size.memory_bytes - 47) + hexed(bench.dice.bytes(48)))
+    set_no_record(bench)
+    bench.say(b"ROOM %d" % bench.dice.choose(ROOM_LENGTHS))
+    make_factory_tag(bench)
+    refused_factory_tags(bench, variant)
+    bench.open_scene()
+    for line in factory_no_form_lines(bench.dice):
+        bench.say(line)
+    bench.say(b"EOF")
+
+
+def use_factory_tag(bench):
+    """An end of frame with the field off, field on, an Inventory, and some events of all kinds."""
+    bench.say(b"EOF")
+    bench.say(b"ON")
+    bench.request(frames.inventory(0, b"", one_slot=True))
+    for _ in range(4):
+        bench.any_event()
+
+
+def refused_factory_tags(bench, variant):
+    """Four memory lengths that no tag has, with contents; record bytes of either kind stay."""
+    for step in range(4):
+        length = MEMORY_LENGTHS[(4 * variant + step) % len(MEMORY_LENGTHS)]
+        bench.say(b"MEM %d" % length)
+        bench.say(b"PUT 0 " + hexed(bench.dice.bytes(min(length, 32))))
+        if bench.dice.one_in(2):
+            set_no_record(bench)
+        make_factory_tag(bench)

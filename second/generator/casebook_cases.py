@@ -19,14 +19,22 @@ KINDS = (
     calls.broken_records, calls.broken_bytes, calls.images)
 RARE = (frames.damaged_inventories, frames.other_uids, commands.many_blocks, calls.no_forms)
 
+# Kinds that came later, each with dice of its own, so that it alters no line of the kinds above: its seeds begin at this
+# number, far from theirs.
+ADDED = ((calls.factory_tags, 2 ** 40),)
+
 # Before the first group, what stands at the start is tried.
 START_LINES = (b"SAVE 2112", b"EOF", b"ON", b"REQ " + hexed(with_crc(inventory(0, b""))), b"SAVE 8256")
 
 
 def casebook_lines(seed, groups):
-    """The lines of so many groups, one by one; the kinds take turns, the rare ones every fourth time."""
+    """The lines of so many groups, one by one; the kinds take turns, the rare ones every fourth time.
+
+    Before the first group come those of the added kinds, of each kind as many as there are turns.
+    """
     if groups:
         yield from START_LINES
+    yield from added_lines(seed, -(-groups // len(KINDS)))
     times = dict.fromkeys(KINDS, 0)
     for group in range(groups):
         kind = KINDS[group % len(KINDS)]
@@ -36,3 +44,12 @@ def casebook_lines(seed, groups):
         kind(bench, times[kind])
         times[kind] += 1
         yield from bench.lines
+
+
+def added_lines(seed, turns):
+    """So many groups of each added kind."""
+    for kind, first in ADDED:
+        for turn in range(turns):
+            bench = Bench(Dice(first + seed * 1000003 + turn))
+            kind(bench, turn)
+            yield from bench.lines

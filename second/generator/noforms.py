@@ -40,6 +40,17 @@ def sure_lines(dice):
                     b"PUT", b"PUT 0", b"PUT 01 00", b"PUT 2049 00", b"PUT 0 zz", b"PUT 0 000", b"PUT 2047 0000"]
 
 
+def factory_no_form_lines(dice):
+    """FACTORY with every wrong kind of UID, in an order that the dice choose."""
+    lines = [b"FACTORY", b"FACTORY ", b"factory " + b"00" * 8, b"FACTORY" + b"00" * 8, b"FACTORY  " + b"00" * 8,
+             b" FACTORY " + b"00" * 8, b"FACTORY " + b"00" * 8 + b" ", b"FACTORY " + b"00" * 8 + b"\r",
+             b"FACTORY " + b"ab" * 8, b"FACTORY " + b"00" * 7 + b"0G", b"FACTORY " + b"0" * 15, b"FACTORY " + b"0" * 17,
+             b"FACTORY " + b"00" * 7, b"FACTORY " + b"00" * 9, b"FACTORY 2048 " + b"00" * 8, b"FACTORYS " + b"00" * 8,
+             b"FACTORY " + dice.bytes(dice.below(8)).hex().upper().encode("ascii"),
+             b"FACTORY " + dice.bytes(9 + dice.below(60)).hex().upper().encode("ascii")]
+    return [lines.pop(dice.below(len(lines))) for _ in range(len(lines))]
+
+
 def tagrun_no_form_lines(dice):
     """Lines that tagrun answers with `?`, and the longest request beside them."""
     return [b"", b"0", b"on", b"ON ", b" ON", b"ON\r", b"OFF\x00", b"0g", b"0a", b"02200", b"000", b"ABCDE", b"0220000", b"0220 00", b"\xFF" * 4,

@@ -111,6 +111,7 @@ def call_branches():
     names += under("load.refusal-5", HEADER_FAULTS)
     names += under("save", "refusal-4.image refusal-1.memory refusal-1.memory-does-not-fit"
                    " done-1.field-off done-1.field-on done-2.field-off done-2.field-on")
+    names += under("factory", "refusal-1.memory done-1 done-2")
     for call in ("event", "save"):
         names += under(f"{call}.refusal-3", HEADER_FAULTS + PASSING_FAULTS)
     return names
@@ -124,11 +125,12 @@ def program_branches():
         under("lines", "last-without-newline empty-input")
         + under("tagrun", "ON OFF EOF request question.empty question.short question.long"
                 " question.odd question.digit")
-        + under("casebook", "ON OFF EOF MEM ROOM REC PUT REQ LOAD SAVE")
+        + under("casebook", "ON OFF EOF MEM ROOM REC PUT REQ LOAD SAVE FACTORY")
         + under("casebook.question", "line.empty line.word")
         + [name for word in ("MEM", "ROOM", "SAVE") for name in under(f"casebook.question.{word}", number_faults)]
-        + [name for word in ("REC", "REQ", "LOAD") for name in under(f"casebook.question.{word}", hex_faults)]
-        + under("casebook.question", "REC.record-short")
+        + [name for word in ("REC", "REQ", "LOAD", "FACTORY")
+           for name in under(f"casebook.question.{word}", hex_faults)]
+        + under("casebook.question", "REC.record-short FACTORY.uid-short")
         + under("casebook.question.PUT", "no-space no-second-space number number-over digit odd bytes-over"))
 
 

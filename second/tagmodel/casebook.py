@@ -6,6 +6,7 @@ from . import host
 from .boundary import RECORD_BYTES, bytes_of_record, record_of_bytes
 from .branches import hit
 from .crc import crc
+from .frame import UID_BYTES
 from .lines import hex_of, is_hex
 from .record import NoRecord, factory_record
 from .sizes import LONGEST_ANSWER, SIZES, size_of_memory
@@ -32,7 +33,8 @@ class Casebook:
         self.room = bytearray(FRESH * LONGEST_ANSWER)
         self.record = bytes_of_record(factory_record(0, SIZES[0]), SIZES[0])
         self.words = {b"MEM": self.lend_memory, b"ROOM": self.lend_room, b"REC": self.set_record,
-                      b"PUT": self.put, b"REQ": self.request, b"LOAD": self.load, b"SAVE": self.save}
+                      b"PUT": self.put, b"REQ": self.request, b"LOAD": self.load, b"SAVE": self.save,
+                      b"FACTORY": self.factory}
 
     def answer(self, line):
         """The answer line; 'A line of no such form answers `?` and changes nothing'."""
@@ -101,6 +103,14 @@ class Casebook:
         """`SAVE n`: into an image of n bytes of EEh, which stands in the answer for the room."""
         image = bytearray(FRESH * number_of(rest, MOST_IMAGE))
         return self.report(host.save(self.read_record(), self.memory, image), image)
+
+    def factory(self, rest):
+        """`FACTORY hex`: '8 bytes, a UID as it travels'; does not look at the record that it replaces."""
+        uid = bytes_of(rest, UID_BYTES)
+        if len(uid) != UID_BYTES:
+            raise NoForm("uid-short")
+        result = host.factory(NoRecord("not looked at"), self.memory, int.from_bytes(uid, "little"))
+        return self.report(result, self.room)
 
     def read_record(self):
         """The record of the 72 bytes; without a fitting memory there is none."""

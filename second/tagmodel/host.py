@@ -4,7 +4,7 @@ from typing import NamedTuple, Union
 
 from .branches import hit
 from .image import header_fault, header_of_record, record_of_header
-from .record import NoRecord, Record
+from .record import NoRecord, Record, factory_record
 from .rules import record_fault
 from .sizes import HEADER_BYTES, LONGEST_ANSWER, size_of_image, size_of_memory
 from .tag import step
@@ -71,6 +71,19 @@ def save(record, memory, image):
     image[:] = header_of_record(record, size) + memory
     hit(f"save.done-{size.mark}.field-{'on' if record.field else 'off'}")
     return Result(NO_REFUSAL, len(image), record)
+
+
+def factory(record, memory, uid):
+    """'fills the lent memory with zeros and makes the record of a factory tag of that size'.
+
+    It checks 1 alone; the record that was there is not looked at.
+    """
+    size = size_of_memory(len(memory))
+    if size is None:
+        return refuse("factory", BAD_MEMORY, "memory", record)
+    memory[:] = bytes(size.memory_bytes)
+    hit(f"factory.done-{size.mark}")
+    return Result(NO_REFUSAL, 0, factory_record(uid, size))
 
 
 def memory_fault(memory):

@@ -3,11 +3,15 @@
 import os
 import sys
 import unittest
+from unittest import mock
 
+from generator import casebook_cases
+from generator.casebook_cases import added_lines, casebook_lines
 from generator.coverage import count_branches
 from generator.dice import Dice
 from generator.streams import casebook_stream, tagrun_stream
 from tagmodel.branches import all_branches, hit
+from tagmodel.casebook import Casebook
 
 from .support import FOLDER, run_program
 
@@ -55,6 +59,36 @@ class Generator(unittest.TestCase):
     def test_last_newline(self):
         self.assertTrue(casebook_stream(2, 5).endswith(b"\n"))
         self.assertFalse(casebook_stream(1, 5).endswith(b"\n"))
+
+
+class AddedKinds(unittest.TestCase):
+    def answers(self, lines):
+        book = Casebook()
+        return [book.answer(each) for each in lines]
+
+    def test_no_other_line_or_answer_is_altered(self):
+        """Without the added groups, which stand together, lines and answers are those of the other kinds alone."""
+        with mock.patch.object(casebook_cases, "ADDED", ()):
+            others = list(casebook_lines(5, 70))
+        lines, added = list(casebook_lines(5, 70)), list(added_lines(5, 3))
+        start, end = len(casebook_cases.START_LINES), len(casebook_cases.START_LINES) + len(added)
+        self.assertEqual(lines[start:end], added)
+        self.assertEqual(lines[:start] + lines[end:], others)
+        answers = self.answers(lines)
+        self.assertEqual(answers[:start] + answers[end:], self.answers(others))
+
+    def test_fresh_cases_have_factory_tags(self):
+        """Made, refused and of no form, in the first group of any seed."""
+        for seed in range(1, 30):
+            lines = list(casebook_lines(seed, 1))
+            found = {answer[0] for each, answer in zip(lines, self.answers(lines)) if each.startswith(b"FACTORY")}
+            self.assertEqual(found, {"0", "1", "?"}, seed)
+
+    def test_other_seeds_have_others(self):
+        self.assertEqual(len({b"".join(added_lines(seed, 1)) for seed in range(1, 30)}), 29)
+
+    def test_no_groups(self):
+        self.assertEqual(list(casebook_lines(1, 0)), [])
 
 
 class Compare(unittest.TestCase):

@@ -10,7 +10,7 @@ from generator.stored_check import check, file_differences, session_faults, work
 from tagmodel.casebook import Casebook
 from tagmodel.crc import crc_by_bits
 from worked import EXAMPLES, SESSION_INPUT, SESSION_OUTPUT
-from worked.examples import Step, crc_text, faults
+from worked.examples import Step, crc_text, faults, shown_crc
 
 from .support import run_program
 
@@ -25,6 +25,10 @@ class Worked(unittest.TestCase):
         for length in range(1, 60):
             data = dice.bytes(length)
             self.assertEqual(crc_text(data.hex()), crc_by_bits(data).to_bytes(2, "little").hex().upper())
+
+    def test_shown_crc(self):
+        """High byte first: 'CRC of 00 is 78 F0', low byte first."""
+        self.assertEqual((shown_crc("00"), shown_crc("00F06B")), ("F078", "6711"))
 
     def test_model_answers_as_printed(self):
         book = Casebook()

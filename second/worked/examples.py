@@ -58,6 +58,12 @@ def crc_text(text):
     return reflected.to_bytes(2, "little").hex().upper()
 
 
+def shown_crc(text):
+    """The CRC as casebook shows it for memory and room, high byte first."""
+    low, high = bytes.fromhex(crc_text(text))
+    return f"{high:02X}{low:02X}"
+
+
 def framed(text):
     """Bytes in hex with their CRC."""
     return text + crc_text(text)

@@ -4,17 +4,13 @@ use Prim.Native.Nat.{ℕ}
 use mathlib.Core.Path.{_≡_}
 use mathlib.Core.List.{List}
 use Rattle.record.specs.declared.Tag.{Tag}
-use Rattle.record.specs.declared.Outcome.{Outcome}
-use Rattle.tag.specs.Host.{EventGiven}
+use Rattle.tag.specs.Host.{numberOf, EventGiven}
 use Rattle.bench.specs.declared.Said.{Said}
-
--- all of an outcome but the record
-abbrev pub saidOf : Outcome → Said
-saidOf o = record { refusal = o .refusal; length = o .length }
 
 -- the call returns r and leaves the record t′, the memory m′ and the room x′
 pub record Updates (g : EventGiven) (t′ : Tag) (m′ x′ : List ℕ) (r : Said) : Type 0 where
-  pub said : r ≡ saidOf (g .result)
-  pub tag : t′ ≡ g .result .tag
+  pub number : numberOf (r .refusal) ≡ g .number
+  pub length : r .length ≡ g .length
+  pub tag : t′ ≡ g .tag
   pub memory : m′ ≡ g .memory
   pub room : x′ ≡ g .room

@@ -16,7 +16,8 @@ pub struct Said {
 
 // "each event updates that record"
 pub fn on_event(tag: &mut Tag, kind: Kind, frame: &[u8], memory: &mut [u8], room: &mut [u8]) -> Said
-    ensures { λ r. ⌜ Updates (eventGiven (now (tag .entry)) (eventOf kind (now (frame .entry))) (now (memory .entry)) (now (room .entry))) (now (tag .exit)) (now (memory .exit)) (now (room .exit)) r ⌝ }
+    ensures { λ r. ⌜ Updates (eventGiven (now (tag .entry)) (eventOf kind (now (frame .entry))) (now (memory .entry))
+        (now (room .entry))) (now (tag .exit)) (now (memory .exit)) (now (room .exit)) r ⌝ }
 {
     let o = host::event(*tag, kind, frame, memory, room);
     *tag = o.tag;
@@ -28,7 +29,8 @@ pub fn on_event(tag: &mut Tag, kind: Kind, frame: &[u8], memory: &mut [u8], room
 
 // The same by value: the record is lent to `on_event` and given back. A caller of this one holds no reference to a record.
 pub fn through(tag: Tag, kind: Kind, frame: &[u8], memory: &mut [u8], room: &mut [u8]) -> Outcome
-    ensures { λ r. ⌜ EventGives tag (eventOf kind (now (frame .entry))) (now (memory .entry)) (now (room .entry)) (now (memory .exit)) (now (room .exit)) r ⌝ }
+    ensures { λ r. ⌜ EventGives tag (eventOf kind (now (frame .entry))) (now (memory .entry)) (now (room .entry))
+        (now (memory .exit)) (now (room .exit)) r ⌝ }
 {
     let mut t = tag;
     let s = on_event(&mut t, kind, frame, memory, room);

@@ -159,12 +159,12 @@ pub fn lock_verdict(v: View, block: u16) -> Verdict
     Verdict::Success
 }
 
-// The vault with a block locked: 0, or else 1.
-pub fn lock_block(v: Vault, block: u16) -> Vault
-    ensures { λ r. ⌜ r ≡ withBlockLock v block ⌝ }
+// The vault with the second block locked, block 1, or the first, block 0.
+pub fn lock_block(v: Vault, second: bool) -> Vault
+    ensures { λ r. ⌜ r ≡ withBlockLock v second ⌝ }
 {
-    if block == 0 {
-        return Vault { lock0: true, ..v };
+    if second {
+        return Vault { lock1: true, ..v };
     }
-    Vault { lock1: true, ..v }
+    Vault { lock0: true, ..v }
 }

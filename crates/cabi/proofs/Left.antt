@@ -2,12 +2,12 @@
 -- Assumes nothing.
 use Prim.Native.Nat.{ℕ, _+_, _≤_}
 use native.Mathlib.Omega.{arith}
-use mathlib.Core.Path.{_≡_, refl, sym, _∙_}
+use mathlib.Core.Path.{_≡_, refl}
 use mathlib.Core.Bool.{true, false}
 use mathlib.Core.List.{List}
 use lib.ListN.{length}
 use lib.Dec.{ltb, eqb}
-use borrow.Author.Tests.{le-ltb, ltb-false, eqb-false}
+use borrow.Author.Tests.{le-ltb, ltb-false, eqb-false, ne-eqb}
 use Rattle.rights.proofs.Cases.{if-one}
 use Rattle.record.specs.declared.Kind.{Kind}
 use Rattle.record.specs.declared.Refusal.{Refusal}
@@ -22,7 +22,7 @@ use Rattle.step.specs.declared.Said.{Said}
 use Rattle.step.specs.Gives.{Gives}
 use Rattle.packed.specs.Bytes.{recordIn, isRecord, recordOf}
 use Rattle.packed.specs.Parts.{PassingLeft}
-use Rattle.cabi.specs.Calls.{resultOf, kindIn, EventLeft, eventLeft, EventLeaves, unlessRefused, loadLeft, LoadLeaves, SaveLeft, saveLeft, SaveLeaves, FactoryLeft, factoryLeft, FactoryLeaves}
+use Rattle.cabi.specs.Calls.{resultOf, kindIn, EventLeft, eventLeft, EventLeaves, LoadLeft, FillLeaves, loadLeft, LoadLeaves, SaveLeft, saveLeft, SaveLeaves}
 
 pub number-most : (r : Refusal) → numberOf r ≤ 5
 number-most refusal.None = omega arith
@@ -45,7 +45,7 @@ module _ {k : ℕ} {frame r m x r′ m′ x′ : List ℕ} where
   unfolding eventLeft
   event-taken s a b d e g w =
       let z = eventDone (recordIn r) (eventOf (kindIn k) frame) m x in
-      event-by (record { result = resultOf refusal.None (z .result .length); bytes = recordOf (length m) (z .result .tag); memory = z .memory; room = z .room })
+      event-by (record { result = resultOf 0 (z .length); bytes = recordOf (length m) (z .tag); memory = z .memory; room = z .room })
       (rw (a, le-ltb _ _ b, d, e))
       (rw (g .result) (omega arith))
       (rw (w, g .result))
@@ -72,36 +72,17 @@ passing-taken {k} {frame} {r} {m} s a b d e other g w =
     let header = lasts (length m) (recordIn r) m (no-frame k frame e other) .header in
     event-taken s a b d e g (w .whole (length m) (blocksOf m) d (rw (g .result) header))
 
-new-unless : (n : Refusal) (new old : List ℕ) → numberOf n ≡ 0 → unlessRefused n new old ≡ new
-new-unless refusal.None new old h = refl
-new-unless refusal.Memory new old h = absurd (omega arith)
-new-unless refusal.Room new old h = absurd (omega arith)
-new-unless refusal.Record new old h = absurd (omega arith)
-new-unless refusal.Image new old h = absurd (omega arith)
-new-unless refusal.Header new old h = absurd (omega arith)
-
-old-unless : (n : Refusal) (new old : List ℕ) → (numberOf n ≡ 0 → ⊥) → unlessRefused n new old ≡ old
-old-unless refusal.None new old h = absurd (h refl)
-old-unless refusal.Memory new old h = refl
-old-unless refusal.Room new old h = refl
-old-unless refusal.Record new old h = refl
-old-unless refusal.Image new old h = refl
-old-unless refusal.Header new old h = refl
-
-module _ {i r m m′ : List ℕ} (o : Outcome) (g : LoadGives (recordIn r) i m m′ o) where
-  pub load-refused : {n : ℕ} → (numberOf (o .refusal) ≡ 0 → ⊥) → n ≡ resultOf (o .refusal) 0 → LoadLeaves i r m r m′ n
+module _ (i r m : List ℕ) {m′ : List ℕ} (o : Outcome) (g : LoadGives (recordIn r) i m m′ o) where
+  pub load-refused : {n : ℕ} → (numberOf (o .refusal) ≡ 0 → ⊥) → n ≡ resultOf (numberOf (o .refusal)) 0 → LoadLeaves i r m r m′ n
   unfolding loadLeft
-  load-refused h p =
-      record { result = rw (← g .result) p; bytes = rw (← g .result) (sym (old-unless (o .refusal) (recordOf (length m) (o .tag)) r h)); memory = g .memory }
+  load-refused h p = record { result = rw (← g .number) p; bytes = rw (← g .number, ne-eqb _ _ h) refl; memory = g .memory }
 
   pub load-taken : {r′ : List ℕ} → numberOf (o .refusal) ≡ 0 → r′ ≡ recordOf (length m) (o .tag) → LoadLeaves i r m r′ m′ 0
   unfolding loadLeft
-  load-taken h p =
-      record {
-        result = rw (← g .result) (omega (arith, h));
-        bytes = rw (← g .result) (p ∙ sym (new-unless (o .refusal) (recordOf (length m) (o .tag)) r h));
-        memory = g .memory;
-      }
+  load-taken h p = record { result = rw (← g .number, h) refl; bytes = rw (← g .number, h, ← g .tag) p; memory = g .memory }
+
+pub fill-by : {h : LoadLeft} {r′ m′ : List ℕ} {n : ℕ} (g : LoadLeft) → h ≡ g → n ≡ g .result → r′ ≡ g .bytes → m′ ≡ g .memory → FillLeaves h r′ m′ n
+fill-by g h p q s = record { result = rw h p; bytes = rw h q; memory = rw h s }
 
 module _ {r m i i′ : List ℕ} where
   pub save-by : {n : ℕ} (g : SaveLeft) → saveLeft r m i ≡ g → n ≡ g .result → i′ ≡ g .image → SaveLeaves r m i i′ n
@@ -111,7 +92,3 @@ module _ {r m i i′ : List ℕ} where
       → SaveLeaves r m i i′ n
   unfolding saveLeft
   save-taken a b d h = record { result = rw (a, b, d, h .0) (omega arith); image = rw (a, b, d) (h .1) }
-
-pub factory-by : {mark uid : ℕ} {r r′ : List ℕ} {n : ℕ} (g : FactoryLeft) → factoryLeft mark uid r ≡ g → n ≡ g .result → r′ ≡ g .bytes
-    → FactoryLeaves mark uid r r′ n
-factory-by g h p q = record { result = rw h p; bytes = rw h q }

@@ -10,6 +10,7 @@ use packed::is_record;
 use packed::read_record;
 use packed::write_passing;
 use packed::write_record;
+use put::fill;
 use record::Kind;
 use record::Refusal;
 ghost use mathlib.Core.Path.{_≡_};
@@ -32,7 +33,7 @@ fn number(r: Refusal) -> u64
 
 // The refusal's number times 2^32, plus the length, which is 0 where a call is refused
 fn refused(r: Refusal) -> u64
-    ensures { λ n. ⌜ n ≡ resultOf r 0 ⌝ }
+    ensures { λ n. ⌜ n ≡ resultOf (numberOf r) 0 ⌝ }
 {
     number(r) * 0x1_0000_0000
 }
@@ -62,7 +63,8 @@ pub extern "C" fn uistermo_event(
     kind: u32,
     frame: &[u8],
 ) -> u64
-    ensures { λ n. ⌜ EventLeaves kind (now (frame .entry)) (now (bytes .entry)) (now (memory .entry)) (now (room .entry)) (now (bytes .exit)) (now (memory .exit)) (now (room .exit)) n ⌝ }
+    ensures { λ n. ⌜ EventLeaves kind (now (frame .entry)) (now (bytes .entry)) (now (memory .entry)) (now (room .entry))
+        (now (bytes .exit)) (now (memory .exit)) (now (room .exit)) n ⌝ }
 {
     let size = memory.len();
     if !is_memory(size) {
@@ -103,6 +105,21 @@ pub extern "C" fn uistermo_load(bytes: &mut [u8; RECORD], image: &[u8], memory: 
     0
 }
 
+// "the size is the memory's; fills it with zeros; refusal 1, or result 0". It does not look at the bytes that were there either
+#[no_mangle]
+pub extern "C" fn uistermo_factory(bytes: &mut [u8; RECORD], uid: u64, memory: &mut [u8]) -> u64
+    ensures { λ n. ⌜ FactoryLeaves uid (now (bytes .entry)) (now (memory .entry)) (now (bytes .exit)) (now (memory .exit)) n ⌝ }
+{
+    let size = memory.len();
+    let suits = is_memory(size);
+    if !suits {
+        return refused(Refusal::Memory);
+    }
+    fill(memory, 0);
+    write_record(factory(last_end(size), uid), size, bytes);
+    0
+}
+
 // "SAVE 4, 1 or 3 in 01's order"
 #[no_mangle]
 pub extern "C" fn uistermo_save(bytes: &[u8; RECORD], memory: &[u8], image: &mut [u8]) -> u64
@@ -119,20 +136,4 @@ pub extern "C" fn uistermo_save(bytes: &[u8; RECORD], memory: &[u8], image: &mut
         return refused(Refusal::Record);
     }
     image::writing::save(read_record(bytes), memory, image) as u64
-}
-
-// 1 where a record was made; 0, and nothing changed, for a size mark other than 1 and 2
-#[no_mangle]
-pub extern "C" fn uistermo_factory(mark: u32, uid: u64, bytes: &mut [u8; RECORD]) -> u32
-    ensures { λ n. ⌜ FactoryLeaves mark uid (now (bytes .entry)) (now (bytes .exit)) n ⌝ }
-{
-    if mark == 1 {
-        write_record(factory(63, uid), 2048, bytes);
-        return 1;
-    }
-    if mark == 2 {
-        write_record(factory(255, uid), 8192, bytes);
-        return 1;
-    }
-    0
 }

@@ -6,11 +6,12 @@ use caselines::lent::Lent;
 use caselines::lent::lend;
 use caselines::limits::FRAME;
 use caselines::limits::IMAGE;
+use caselines::limits::UID;
 use caselines::row::put_call;
 use packed::RECORD;
 ghost use Prim.Native.Nat.{_*_, _≤_};
 ghost use lib.ListN.{length};
-ghost use Rattle.caselines.specs.Limits.{frameMost, imageMost, rowMost};
+ghost use Rattle.caselines.specs.Limits.{frameMost, imageMost, uidLength, rowMost};
 ghost use Rattle.caselines.specs.Form.{Fits};
 ghost use Rattle.caselines.specs.Row.{Suits};
 ghost use Rattle.caselines.specs.Lent.{Within};
@@ -52,6 +53,23 @@ fn load(
     let mut image = [0u8; IMAGE];
     let n = text::put_bytes(digits, &mut image);
     let result = cabi::uistermo_load(tag, &image[..n], memory);
+    put_call(result, tag, memory, room, out)
+}
+
+// "8 bytes, a UID as it travels": its lowest byte first
+fn factory(
+    digits: &[u8],
+    tag: &mut [u8; RECORD],
+    memory: &mut [u8],
+    room: &[u8],
+    out: &mut [u8],
+) -> usize
+    requires { ⌜ (length (now digits) ≤ 2 * uidLength) × Suits (length (now room)) (length (now out)) ⌝ }
+    ensures { λ r. ⌜ r ≤ length (now (out .exit)) ⌝ }
+{
+    let mut uid = [0u8; UID];
+    text::put_bytes(digits, &mut uid);
+    let result = cabi::uistermo_factory(tag, put::number8(&uid, 0), memory);
     put_call(result, tag, memory, room, out)
 }
 
@@ -99,6 +117,7 @@ fn act(
         Form::Save(n) => save(n, tag, memory, out),
         Form::Record(from) => take(after(line, from), tag, out),
         Form::Load(from) => load(after(line, from), tag, memory, room, out),
+        Form::Factory(from) => factory(after(line, from), tag, memory, room, out),
         Form::Bytes { at, from } => take(after(line, from), &mut memory[at..], out),
         Form::Event { kind, from } => event(kind, after(line, from), tag, memory, room, out),
         Form::NoForm => put::copy(b"?\n", out),

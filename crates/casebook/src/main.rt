@@ -154,7 +154,7 @@ fn main() {
     let mut tag = [0u8; RECORD];
     let mut memory = [0u8; MEMORY];
     let mut room = [0xEEu8; ROOM];
-    cabi::uistermo_factory(1, 0, &mut tag);
+    cabi::uistermo_factory(&mut tag, 0, &mut memory[..2048]);
     let lent = Lent {
         memory: 2048,
         room: 10243,

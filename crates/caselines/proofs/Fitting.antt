@@ -14,13 +14,18 @@ use Rattle.packed.specs.Bytes.{recordLength}
 use Rattle.caselines.specs.declared.form.Number.{Number}
 use Rattle.caselines.specs.declared.form.Number.the-variants.{Of, NoNumber}
 use Rattle.caselines.specs.declared.form.Form.{Form}
-use Rattle.caselines.specs.Limits.{memoryMost, roomMost, imageMost, frameMost}
-use Rattle.caselines.specs.Form.{begins, numberIn, memoryOf, roomOf, saveOf, isHex, recordForm, requestForm, loadForm, spaceIn, placedForm, placedBy, bytesForm, hexForm, numberForm, formOf, Fits}
+use Rattle.caselines.specs.Limits.{memoryMost, roomMost, imageMost, frameMost, uidLength}
+use Rattle.caselines.specs.Form.{begins, numberIn, memoryOf, roomOf, saveOf, isHex, recordForm, requestForm, loadForm, factoryForm}
+use Rattle.caselines.specs.Form.{spaceIn, placedForm, placedBy, bytesForm, hexForm, numberForm, formOf, Fits}
 use Rattle.caselines.proofs.Figures.{AtMost, number-most}
 
 hex-most : (most : ℕ) (s : List ℕ) → isHex most s ≡ true → length s ≤ most
 unfolding isHex
 hex-most most s e = leb-true _ _ (both (eqb (length s % 2) 0) _ (both _ _ e .0) .1)
+
+-- exactly so many digits are at most so many
+exact-most : (n : ℕ) (s : List ℕ) → (eqb (length s) n && isHex n s) ≡ true → length s ≤ n
+exact-most n s e = hex-most n s (both (eqb (length s) n) _ e .1)
 
 module _ (memory line : ℕ) where
   memory-fits : (n : Number) → AtMost memoryMost n → Fits memory line (memoryOf n)
@@ -39,7 +44,7 @@ module _ (memory line : ℕ) where
   unfolding recordForm
   record-fits s e =
       if-one (Fits memory line) (eqb (length s) (2 * recordLength) && isHex (2 * recordLength) s)
-      (λ h. omega (arith, hex-most (2 * recordLength) s (both (eqb (length s) (2 * recordLength)) _ h .1)))
+      (λ h. omega (arith, exact-most (2 * recordLength) s h))
       (λ h. tt)
 
   request-fits : (s : List ℕ) → length s ≡ line - 4 → Fits memory line (requestForm s)
@@ -49,6 +54,13 @@ module _ (memory line : ℕ) where
   load-fits : (s : List ℕ) → length s ≡ line - 5 → Fits memory line (loadForm s)
   unfolding loadForm
   load-fits s e = if-one (Fits memory line) (isHex (2 * imageMost) s) (λ h. omega (arith, hex-most (2 * imageMost) s h)) (λ h. tt)
+
+  factory-fits : (s : List ℕ) → length s ≡ line - 8 → Fits memory line (factoryForm s)
+  unfolding factoryForm
+  factory-fits s e =
+      if-one (Fits memory line) (eqb (length s) (2 * uidLength) && isHex (2 * uidLength) s)
+      (λ h. omega (arith, exact-most (2 * uidLength) s h))
+      (λ h. tt)
 
   placed-fits : (n : Number) (k : ℕ) (s : List ℕ) → AtMost memory n → length s ≡ line - 4 → Fits memory line (placedBy n memory k s)
   unfolding placedForm
@@ -74,7 +86,8 @@ module _ (memory : ℕ) (l : List ℕ) where
       if-one OfLine (begins l (bytesOfText "REC ")) (λ h. record-fits memory (length l) (drop 4 l) (length-drop 4 l)) (λ h.
       if-one OfLine (begins l (bytesOfText "PUT ")) (λ h. bytes-fits memory (length l) (drop 4 l) (length-drop 4 l)) (λ h.
       if-one OfLine (begins l (bytesOfText "REQ ")) (λ h. request-fits memory (length l) (drop 4 l) (length-drop 4 l)) (λ h.
-      if-one OfLine (begins l (bytesOfText "LOAD ")) (λ h. load-fits memory (length l) (drop 5 l) (length-drop 5 l)) (λ h. tt))))
+      if-one OfLine (begins l (bytesOfText "LOAD ")) (λ h. load-fits memory (length l) (drop 5 l) (length-drop 5 l)) (λ h.
+      if-one OfLine (begins l (bytesOfText "FACTORY ")) (λ h. factory-fits memory (length l) (drop 8 l) (length-drop 8 l)) (λ h. tt)))))
 
   number-fits : OfLine (numberForm memory l)
   unfolding numberForm

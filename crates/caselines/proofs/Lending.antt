@@ -7,7 +7,7 @@ use native.Mathlib.Omega.{arith}
 use lib.ListN.{length, take}
 use lib.Seq.{length-take-le}
 use Rattle.caselines.specs.declared.form.Form.{Form}
-use Rattle.caselines.specs.declared.form.Form.the-variants.{Memory, Room, Save, Record, Load, Bytes, Event, NoForm}
+use Rattle.caselines.specs.declared.form.Form.the-variants.{Memory, Room, Save, Record, Load, Factory, Bytes, Event, NoForm}
 use Rattle.caselines.specs.Limits.{memoryMost, roomMost}
 use Rattle.caselines.specs.Form.{formOf, Fits}
 use Rattle.caselines.proofs.Fitting.{form-fits}
@@ -21,6 +21,7 @@ lent-fits (Room n) l line h = h
 lent-fits (Save n) l line h = h
 lent-fits (Record from) l line h = h
 lent-fits (Load from) l line h = h
+lent-fits (Factory from) l line h = h
 lent-fits (Bytes at from) l line h = h
 lent-fits (Event kind from) l line h = h
 lent-fits NoForm l line h = h
@@ -31,6 +32,7 @@ lent-within (Room n) l line h w = record { memory = w .memory; room = h }
 lent-within (Save n) l line h w = w
 lent-within (Record from) l line h w = w
 lent-within (Load from) l line h w = w
+lent-within (Factory from) l line h w = w
 lent-within (Bytes at from) l line h w = w
 lent-within (Event kind from) l line h w = w
 lent-within NoForm l line h w = w

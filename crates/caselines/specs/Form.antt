@@ -11,8 +11,8 @@ use Rattle.packed.specs.Bytes.{recordLength}
 use Rattle.caselines.specs.declared.form.Number.{Number}
 use Rattle.caselines.specs.declared.form.Number.the-variants.{Of, NoNumber}
 use Rattle.caselines.specs.declared.form.Form.{Form}
-use Rattle.caselines.specs.declared.form.Form.the-variants.{Memory, Room, Save, Record, Load, Bytes, Event, NoForm}
-use Rattle.caselines.specs.Limits.{memoryMost, roomMost, imageMost, frameMost}
+use Rattle.caselines.specs.declared.form.Form.the-variants.{Memory, Room, Save, Record, Load, Factory, Bytes, Event, NoForm}
+use Rattle.caselines.specs.Limits.{memoryMost, roomMost, imageMost, frameMost, uidLength}
 
 -- a line that begins with a word and what follows it
 unfoldable pub begins : List ℕ → List ℕ → Bool
@@ -65,6 +65,10 @@ requestForm s = if isHex (2 * frameMost) s then Event 3 4 else NoForm
 unfoldable pub loadForm : List ℕ → Form
 loadForm s = if isHex (2 * imageMost) s then Load 5 else NoForm
 
+-- "FACTORY hex": "8 bytes, a UID as it travels"
+unfoldable pub factoryForm : List ℕ → Form
+factoryForm s = if eqb (length s) (2 * uidLength) && isHex (2 * uidLength) s then Factory 8 else NoForm
+
 -- ---- "PUT at hex": "bytes into the memory, within it"
 
 -- how many bytes stand before the first space
@@ -92,7 +96,8 @@ hexForm memory l =
     if begins l (bytesOfText "REC ") then recordForm (drop 4 l) else
     if begins l (bytesOfText "PUT ") then bytesForm memory (drop 4 l) else
     if begins l (bytesOfText "REQ ") then requestForm (drop 4 l) else
-    if begins l (bytesOfText "LOAD ") then loadForm (drop 5 l) else NoForm
+    if begins l (bytesOfText "LOAD ") then loadForm (drop 5 l) else
+    if begins l (bytesOfText "FACTORY ") then factoryForm (drop 8 l) else NoForm
 
 unfoldable pub numberForm : ℕ → List ℕ → Form
 numberForm memory l =
@@ -113,6 +118,7 @@ Fits memory line (Room n) = n ≤ roomMost
 Fits memory line (Save n) = n ≤ imageMost
 Fits memory line (Record from) = line - from ≤ 2 * recordLength
 Fits memory line (Load from) = line - from ≤ 2 * imageMost
+Fits memory line (Factory from) = line - from ≤ 2 * uidLength
 Fits memory line (Bytes at from) = (at ≤ memory) × (line - from ≤ 2 * (memory - at))
 Fits memory line (Event kind from) = line - from ≤ 2 * frameMost
 Fits memory line NoForm = Unit {0}

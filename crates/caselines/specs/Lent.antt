@@ -5,7 +5,7 @@ use mathlib.Core.Path.{_≡_}
 use mathlib.Core.List.{List}
 use lib.ListN.{length, replicate}
 use Rattle.caselines.specs.declared.form.Form.{Form}
-use Rattle.caselines.specs.declared.form.Form.the-variants.{Memory, Room, Save, Record, Load, Bytes, Event, NoForm}
+use Rattle.caselines.specs.declared.form.Form.the-variants.{Memory, Room, Save, Record, Load, Factory, Bytes, Event, NoForm}
 use Rattle.caselines.specs.declared.lent.Lent.{Lent}
 use Rattle.caselines.specs.Limits.{memoryMost, roomMost}
 
@@ -16,6 +16,7 @@ lentBy (Room n) l = record { memory = l .memory; room = n }
 lentBy (Save n) l = l
 lentBy (Record from) l = l
 lentBy (Load from) l = l
+lentBy (Factory from) l = l
 lentBy (Bytes at from) l = l
 lentBy (Event kind from) l = l
 lentBy NoForm l = l
@@ -27,6 +28,7 @@ memoryBy (Room n) m = m
 memoryBy (Save n) m = m
 memoryBy (Record from) m = m
 memoryBy (Load from) m = m
+memoryBy (Factory from) m = m
 memoryBy (Bytes at from) m = m
 memoryBy (Event kind from) m = m
 memoryBy NoForm m = m
@@ -37,6 +39,7 @@ roomBy (Room n) x = replicate (length x) 0xEE
 roomBy (Save n) x = x
 roomBy (Record from) x = x
 roomBy (Load from) x = x
+roomBy (Factory from) x = x
 roomBy (Bytes at from) x = x
 roomBy (Event kind from) x = x
 roomBy NoForm x = x

@@ -19,6 +19,10 @@ imageMost = 8300
 abbrev pub frameMost : ℕ
 frameMost = 1100
 
+-- "8 bytes, a UID as it travels"
+abbrev pub uidLength : ℕ
+uidLength = 8
+
 -- the longest line that has a form, `PUT 0 ` and a whole memory in hex, and one byte more
 abbrev pub lineMost : ℕ
 lineMost = 6 + 2 * memoryMost + 1

@@ -3,13 +3,14 @@ use super::limits::FRAME;
 use super::limits::IMAGE;
 use super::limits::MEMORY;
 use super::limits::ROOM;
+use super::limits::UID;
 use packed::RECORD;
 ghost use mathlib.Core.Path.{_≡_};
 ghost use Prim.Native.Nat.{_≤_};
 ghost use lib.ListN.{drop};
 ghost use Rattle.caselines.specs.Limits.{memoryMost, roomMost, imageMost};
 ghost use Rattle.caselines.specs.Form.{begins, numberFrom, numberIn, memoryOf, roomOf, saveOf, isHex, recordForm, requestForm, loadForm};
-ghost use Rattle.caselines.specs.Form.{spaceIn, placedForm, bytesForm, hexForm, numberForm, formOf};
+ghost use Rattle.caselines.specs.Form.{factoryForm, spaceIn, placedForm, bytesForm, hexForm, numberForm, formOf};
 
 // The kinds of an event, as cabi numbers them.
 const ON: u32 = 0;
@@ -27,6 +28,8 @@ const FRAME_DIGITS: usize = 2 * FRAME;
 
 const IMAGE_DIGITS: usize = 2 * IMAGE;
 
+const UID_DIGITS: usize = 2 * UID;
+
 pub enum Number {
     Of(usize),
     NoNumber,
@@ -39,6 +42,7 @@ pub enum Form {
     Save(usize),
     Record(usize),
     Load(usize),
+    Factory(usize),
     Bytes { at: usize, from: usize },
     Event { kind: u32, from: usize },
     NoForm,
@@ -164,6 +168,15 @@ fn load_form(s: &[u8]) -> Form
     Form::NoForm
 }
 
+fn factory_form(s: &[u8]) -> Form
+    ensures { λ r. ⌜ r ≡ factoryForm (now (s .entry)) ⌝ }
+{
+    if (s.len() == UID_DIGITS) & is_hex(s, UID_DIGITS) {
+        return Form::Factory(8);
+    }
+    Form::NoForm
+}
+
 fn space_in(s: &[u8]) -> usize
     ensures { λ r. ⌜ r ≡ spaceIn (now (s .entry)) ⌝ }
 {
@@ -217,6 +230,9 @@ fn hex_form(line: &[u8], memory: usize) -> Form
     }
     if begins_with(line, b"LOAD ") {
         return load_form(after(line, 5));
+    }
+    if begins_with(line, b"FACTORY ") {
+        return factory_form(after(line, 8));
     }
     Form::NoForm
 }

@@ -13,6 +13,9 @@ pub const IMAGE: usize = 8300;
 // "a frame of 0 to 1,100 bytes"
 pub const FRAME: usize = 1100;
 
+// "8 bytes, a UID as it travels"
+pub const UID: usize = 8;
+
 // The longest line that has a form, `PUT 0 ` and a whole memory in hex, and one byte more, by which a longer line is told.
 pub const LINE: usize = 6 + 2 * MEMORY + 1;
 

@@ -2,7 +2,7 @@
 -- Assumes nothing.
 use Prim.Native.Nat.{ℕ, _+_, _*_, _≤_}
 use native.Mathlib.Omega.{arith}
-use mathlib.Core.Path.{_≡_}
+use mathlib.Core.Path.{_≡_, refl}
 use mathlib.Core.Bool.{true}
 use mathlib.Core.List.{List}
 use lib.Dec.{eqb}
@@ -10,15 +10,23 @@ use lib.ListN.{length}
 use borrow.Author.Tests.{eqb-true}
 use Rattle.put.specs.If.{if_then_else_}
 use Rattle.rights.proofs.Cases.{or-one}
-use Rattle.tag.specs.Rules.{blocksOf}
+use Rattle.tag.specs.Rules.{blocksOf, lastEnd}
 use Rattle.record.specs.declared.Tag.{Tag}
+use Rattle.record.specs.declared.Refusal.{Refusal}
 use Rattle.record.specs.declared.Outcome.{Outcome}
 use Rattle.tag.specs.Step.{Event}
-use Rattle.tag.specs.Host.{isMemory, isImage, EventGiven, eventGiven, EventGives, LoadGiven, loadGiven, LoadGives, SaveGiven, saveGiven, SaveGives}
+use Rattle.tag.specs.Host.{numberOf, isMemory, isImage, EventGiven, eventGiven, EventGives, LoadGiven, Fills, SaveGiven, saveGiven, SaveGives}
 
 -- the blocks of a memory, from its last end
 pub blocks-by-end : (m : List ℕ) → isMemory m ≡ true → blocksOf m ≡ 8 * ((if eqb (length m) 2048 then 63 else 255) + 1)
 blocks-by-end m h =
+    or-one (eqb (length m) 2048) (eqb (length m) 8192) h
+    (λ e. rw (eqb-true (length m) 2048 e))
+    (λ e. rw (eqb-true (length m) 8192 e))
+
+-- "E is 63 or 255."
+pub end-by-size : (m : List ℕ) → isMemory m ≡ true → lastEnd (blocksOf m) ≡ (if eqb (length m) 2048 then 63 else 255)
+end-by-size m h =
     or-one (eqb (length m) 2048) (eqb (length m) 8192) h
     (λ e. rw (eqb-true (length m) 2048 e))
     (λ e. rw (eqb-true (length m) 8192 e))
@@ -32,11 +40,22 @@ has-header i h =
 
 -- ---- a call that gives what the definition names
 
-pub event-by : {t : Tag} {e : Event} {m x m′ x′ : List ℕ} {r : Outcome} (g : EventGiven) → eventGiven t e m x ≡ g → r ≡ g .result → m′ ≡ g .memory → x′ ≡ g .room → EventGives t e m x m′ x′ r
-event-by g h p q s = record { result = rw h p; memory = rw h q; room = rw h s }
+-- the number, the length and the record that are returned
+pub record Returns (n l : ℕ) (t : Tag) (r : Outcome) : Type 0 where
+  pub number : numberOf (r .refusal) ≡ n
+  pub length : r .length ≡ l
+  pub tag : r .tag ≡ t
 
-pub load-by : {t : Tag} {i m m′ : List ℕ} {r : Outcome} (g : LoadGiven) → loadGiven t i m ≡ g → r ≡ g .result → m′ ≡ g .memory → LoadGives t i m m′ r
-load-by g h p q = record { result = rw h p; memory = rw h q }
+pub returns-by : {f : Refusal} {l : ℕ} {t : Tag} {r : Outcome} → r ≡ record { refusal = f; length = l; tag = t } → Returns (numberOf f) l t r
+returns-by e = rw e (record { number = refl; length = refl; tag = refl })
 
-pub save-by : {t : Tag} {m i i′ : List ℕ} {r : Outcome} (g : SaveGiven) → saveGiven t m i ≡ g → r ≡ g .result → i′ ≡ g .image → SaveGives t m i i′ r
-save-by g h p q = record { result = rw h p; image = rw h q }
+pub event-by : {t : Tag} {e : Event} {m x m′ x′ : List ℕ} {r : Outcome} (g : EventGiven) → eventGiven t e m x ≡ g
+    → Returns (g .number) (g .length) (g .tag) r → m′ ≡ g .memory → x′ ≡ g .room → EventGives t e m x m′ x′ r
+event-by g h p q s = record { number = rw h (p .number); length = rw h (p .length); tag = rw h (p .tag); memory = rw h q; room = rw h s }
+
+pub fills-by : {h : LoadGiven} {m′ : List ℕ} {r : Outcome} (g : LoadGiven) → h ≡ g → Returns (g .number) (g .length) (g .tag) r → m′ ≡ g .memory → Fills h m′ r
+fills-by g h p q = record { number = rw h (p .number); length = rw h (p .length); tag = rw h (p .tag); memory = rw h q }
+
+pub save-by : {t : Tag} {m i i′ : List ℕ} {r : Outcome} (g : SaveGiven) → saveGiven t m i ≡ g → Returns (g .number) (g .length) (g .tag) r → i′ ≡ g .image
+    → SaveGives t m i i′ r
+save-by g h p q = record { number = rw h (p .number); length = rw h (p .length); tag = rw h (p .tag); image = rw h q }

@@ -1,4 +1,4 @@
-// The calls of a host: event, load and save, with the numbers 1 to 5 of document 01. Any record, any bytes and any buffers are taken, and
+// The calls of a host: event, load, save and factory, with the numbers 1 to 5 of document 01. Any record, any bytes and any buffers are taken, and
 // each call ends; no caller need test anything first.
 pub mod rules; // rules.rt: the record rules
 
@@ -15,7 +15,7 @@ ghost use Prim.Native.Nat.{_+_};
 ghost use lib.Dec.{eqb};
 ghost use Rattle.put.specs.If.{if_then_else_};
 ghost use Rattle.tag.specs.Step.{eventOf};
-ghost use Rattle.tag.specs.Host.{outcome, EventGives, LoadGives, SaveGives};
+ghost use Rattle.tag.specs.Host.{EventGives, LoadGives, SaveGives, FactoryGives};
 
 // "user memory lent is not 2,048 or 8,192 bytes"
 pub fn is_memory(size: usize) -> bool
@@ -53,7 +53,7 @@ pub fn last_end(size: usize) -> u8
 
 // "A refusal returns its number and length 0; record and buffers stay."
 fn refuse(refusal: Refusal, t: Tag) -> Outcome
-    ensures { λ r. ⌜ r ≡ outcome refusal 0 t ⌝ }
+    ensures { λ r. ⌜ r ≡ record { refusal = refusal; length = 0; tag = t } ⌝ }
 {
     Outcome {
         refusal,
@@ -64,7 +64,8 @@ fn refuse(refusal: Refusal, t: Tag) -> Outcome
 
 // "An event checks 1, 2, 3 in that order."
 pub fn event(t: Tag, kind: Kind, frame: &[u8], memory: &mut [u8], room: &mut [u8]) -> Outcome
-    ensures { λ r. ⌜ EventGives t (eventOf kind (now (frame .entry))) (now (memory .entry)) (now (room .entry)) (now (memory .exit)) (now (room .exit)) r ⌝ }
+    ensures { λ r. ⌜ EventGives t (eventOf kind (now (frame .entry))) (now (memory .entry)) (now (room .entry))
+        (now (memory .exit)) (now (room .exit)) r ⌝ }
 {
     let lent = is_memory(memory.len());
     let keeps = rules::is_sound(last_end(memory.len()), t);
@@ -131,5 +132,24 @@ pub fn save(t: Tag, memory: &[u8], image: &mut [u8]) -> Outcome
         refusal: Refusal::None,
         length,
         tag: t,
+    }
+}
+
+// "A factory tag has zero memory, passwords, locks, AFI, DSFID and RFAiSS, and all ends at E." The size is that of the memory lent. Of t
+// nothing is looked at: it is given back where the memory is not 2,048 or 8,192 bytes, with number 1.
+pub fn factory(t: Tag, uid: u64, memory: &mut [u8]) -> Outcome
+    ensures { λ r. ⌜ FactoryGives t uid (now (memory .entry)) (now (memory .exit)) r ⌝ }
+{
+    let size = memory.len();
+    let suits = is_memory(size);
+    if !suits {
+        return refuse(Refusal::Memory, t);
+    }
+    put::fill(memory, 0);
+    let tag = reading::factory(last_end(size), uid);
+    Outcome {
+        refusal: Refusal::None,
+        length: 0,
+        tag,
     }
 }

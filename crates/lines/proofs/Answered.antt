@@ -41,7 +41,7 @@ module _ (n : ℕ) {r : ℕ} (l : List ℕ) (e : r ≡ min n 129) (h : length l 
       (less-or-not n 129)
 
 abbrev Within : EventGiven → Type 0
-Within g = g .result .length ≤ length (g .room)
+Within g = g .length ≤ length (g .room)
 
 given-within : (t : Tag) (e : Event) (m x : List ℕ) → Within (eventGiven t e m x)
 unfolding eventGiven
@@ -53,13 +53,14 @@ given-within t e m x =
 
 module _ {t : Tag} {e : Event} {m x m′ x′ : List ℕ} {o : Outcome} (g : EventGives t e m x m′ x′ o) where
   pub within : o .length ≤ length x′
-  within = rw (g .result, g .room) (given-within t e m x)
+  within = rw (g .length, g .room) (given-within t e m x)
 
 module _ (k : Kind) (p : Progress) (l : List ℕ) {m x m′ x′ y y′ : List ℕ} {o : Outcome} {r : Fed} (g : EventGives (p .tag) (eventIn k l) m x m′ x′ o) where
-  pub answered : (r .progress ≡ afterLine p (o .tag)) × Put (textOf (p .number) dash (take (o .length) x′)) y y′ (r .length) → Gives (lineGiven (form.Event k) p l m x) y m′ x′ y′ r
+  pub answered : (r .progress ≡ afterLine p (o .tag)) × Put (textOf (p .number) dash (take (o .length) x′)) y y′ (r .length)
+      → Gives (lineGiven (form.Event k) p l m x) y m′ x′ y′ r
   answered s = record {
-    progress = s .0 ∙ ap (λ (o : Outcome). afterLine p (o .tag)) (g .result);
+    progress = s .0 ∙ ap (afterLine p) (g .tag);
     memory = g .memory;
     room = g .room;
-    out = rw (g .result, g .room) at (s .1);
+    out = rw (g .length, g .room) at (s .1);
   }

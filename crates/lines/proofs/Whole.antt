@@ -7,7 +7,7 @@ use mathlib.Core.List.{List, [], _∷_, _++_, append-nil}
 use Prim.Native.Nat.{ℕ, _+_, _≤_, _<_}
 use native.Mathlib.Numerals.{add-one}
 use native.Mathlib.Omega.{arith}
-use lib.ListN.{length, take, drop, replicate, length-append, length-take, length-drop, length-set}
+use lib.ListN.{length, take, drop, length-append, length-take, length-drop, length-set}
 use lib.Seq.{length-take-le, take-all, take-at, take-append-le, take-suc-set}
 use lib.Dec.{ltb, eqb}
 use borrow.Author.Tests.{le-ltb, lt-ltb, lt-leb, eq-eqb, ne-eqb}
@@ -24,7 +24,7 @@ use Rattle.lines.specs.declared.form.Form.the-variants as form
 use Rattle.lines.specs.declared.Progress.{Progress}
 use Rattle.text.specs.Text.{bytesOfText, same}
 use Rattle.lines.specs.Form.{linesFrom, isRequest, formOf, eventIn}
-use Rattle.lines.specs.Output.{Bench, atFirst, dash, textOf, saidBy, outputFrom, outputOf}
+use Rattle.lines.specs.Output.{Bench, firstMemory, atFirst, dash, textOf, saidBy, outputFrom, outputOf}
 use Rattle.lines.specs.Calls.{started, soFar, withByte, Given, nothing, lineGiven, ended, fed, finished, written}
 use Rattle.text.proofs.Texts.{less-or-not, unlike}
 
@@ -163,10 +163,10 @@ from-any (b ∷ bs) p m x line s = by-test (eqb b 0x0A) (from-any bs)
 
 -- ---- the whole input
 
-pub writes-output : (x input : List ℕ) → leastRoom ≤ length x → written started (replicate 2048 0) x input ≡ outputOf input
+pub writes-output : (x input : List ℕ) → leastRoom ≤ length x → written started firstMemory x input ≡ outputOf input
 unfolding started atFirst outputOf
 writes-output x input h =
-    from-any input started (replicate 2048 0) x []
+    from-any input started firstMemory x []
     (record {
       memory = refl;
       room = h;

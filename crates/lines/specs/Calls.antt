@@ -17,6 +17,7 @@ use Rattle.lines.specs.declared.Fed.{Fed}
 use Rattle.lines.specs.Form.{formOf, eventIn}
 use Rattle.lines.specs.Output.{firstTag, nextNumber, dash, question, textOf}
 
+-- a session that begins, beside the memory `firstMemory`
 unfoldable pub started : Progress
 started = record { tag = firstTag; number = 1; length = 0; line = replicate 129 0 }
 
@@ -49,7 +50,7 @@ nothing p m x = record { text = []; progress = p; memory = m; room = x }
 abbrev pub lineGiven : Form → Progress → List ℕ → List ℕ → List ℕ → Given
 lineGiven (Event k) p l m x =
     let g = eventGiven (p .tag) (eventIn k l) m x in
-    record { text = textOf (p .number) dash (take (g .result .length) (g .room)); progress = afterLine p (g .result .tag); memory = g .memory; room = g .room }
+    record { text = textOf (p .number) dash (take (g .length) (g .room)); progress = afterLine p (g .tag); memory = g .memory; room = g .room }
 lineGiven NoForm p l m x = record { text = textOf (p .number) question []; progress = afterLine p (p .tag); memory = m; room = x }
 
 -- the line so far ends

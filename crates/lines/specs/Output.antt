@@ -19,12 +19,15 @@ pub record Bench : Type 0 where
   pub tag : Tag
   pub memory : List ℕ
 
--- "`tagrun` starts with a factory 16 Kbit tag of UID E0 02 23 04 01 D6 C8 F0", "line number from 1"
+-- "`tagrun` starts with a factory 16 Kbit tag of UID E0 02 23 04 01 D6 C8 F0", which "has zero memory"; "line number from 1"
 abbrev pub firstTag : Tag
 firstTag = factory 63 0xE002230401D6C8F0
 
+abbrev pub firstMemory : List ℕ
+firstMemory = replicate 2048 0
+
 unfoldable pub atFirst : Bench
-atFirst = record { number = 1; tag = firstTag; memory = replicate 2048 0 }
+atFirst = record { number = 1; tag = firstTag; memory = firstMemory }
 
 -- the greatest number of 64 bits has no next one
 unfoldable pub nextNumber : ℕ → ℕ

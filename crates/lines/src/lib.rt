@@ -3,6 +3,7 @@ mod form; // form.rt: what a line is, and the frame of a request
 mod output; // output.rt: an output line
 
 use form::Form;
+use image::reading::factory;
 use record::Kind;
 use record::Outcome;
 use record::Tag;
@@ -12,7 +13,7 @@ ghost use lib.ListN.{length};
 ghost use Rattle.put.specs.Put.{Put};
 ghost use Rattle.tag.specs.Host.{EventGives};
 ghost use Rattle.lines.specs.Form.{formOf, eventIn};
-ghost use Rattle.lines.specs.Output.{nextNumber, textOf};
+ghost use Rattle.lines.specs.Output.{firstMemory, nextNumber, textOf};
 ghost use Rattle.lines.specs.Calls.{started, withByte, afterLine, lineGiven, ended, fed, finished, Suits, Gives};
 
 // How far a session is: the tag, the number of the next output line, and the line so far, which is kept up to 129 bytes: a longer line has
@@ -93,7 +94,8 @@ fn answer(
     out: &mut [u8],
 ) -> Fed
     requires { ⌜ Suits (length (now line)) (length (now room)) (length (now out)) ⌝ }
-    ensures { λ r. ⌜ Gives (lineGiven (Form.Event kind) p (now (line .entry)) (now (memory .entry)) (now (room .entry))) (now (out .entry)) (now (memory .exit)) (now (room .exit)) (now (out .exit)) r ⌝ }
+    ensures { λ r. ⌜ Gives (lineGiven (Form.Event kind) p (now (line .entry)) (now (memory .entry)) (now (room .entry))) (now (out .entry))
+        (now (memory .exit)) (now (room .exit)) (now (out .exit)) r ⌝ }
 {
     let tag = p.tag;
     let o = happen(tag, kind, line, memory, room);
@@ -105,7 +107,8 @@ fn answer(
 // Any line.
 fn answer_line(p: Progress, line: &[u8], memory: &mut [u8], room: &mut [u8], out: &mut [u8]) -> Fed
     requires { ⌜ Suits (length (now line)) (length (now room)) (length (now out)) ⌝ }
-    ensures { λ r. ⌜ Gives (lineGiven (formOf (now (line .entry))) p (now (line .entry)) (now (memory .entry)) (now (room .entry))) (now (out .entry)) (now (memory .exit)) (now (room .exit)) (now (out .exit)) r ⌝ }
+    ensures { λ r. ⌜ Gives (lineGiven (formOf (now (line .entry))) p (now (line .entry)) (now (memory .entry)) (now (room .entry)))
+        (now (out .entry)) (now (memory .exit)) (now (room .exit)) (now (out .exit)) r ⌝ }
 {
     let tag = p.tag;
     let f = form::form_of(line);
@@ -118,18 +121,21 @@ fn answer_line(p: Progress, line: &[u8], memory: &mut [u8], room: &mut [u8], out
 // The line so far ends.
 fn end_line(p: Progress, memory: &mut [u8], room: &mut [u8], out: &mut [u8]) -> Fed
     requires { ⌜ Suits 129 (length (now room)) (length (now out)) ⌝ }
-    ensures { λ r. ⌜ Gives (ended p (now (memory .entry)) (now (room .entry))) (now (out .entry)) (now (memory .exit)) (now (room .exit)) (now (out .exit)) r ⌝ }
+    ensures { λ r. ⌜ Gives (ended p (now (memory .entry)) (now (room .entry))) (now (out .entry)) (now (memory .exit)) (now (room .exit))
+        (now (out .exit)) r ⌝ }
 {
     let line = p.line;
     let n = cut(p.length);
     answer_line(p, &line[..n], memory, room, out)
 }
 
-// A session that begins: "a factory 16 Kbit tag of UID E0 02 23 04 01 D6 C8 F0", and no line yet.
-pub fn start() -> Progress
-    ensures { λ r. ⌜ r ≡ started ⌝ }
+// A session that begins: "a factory 16 Kbit tag of UID E0 02 23 04 01 D6 C8 F0", with its memory, and no line yet. A memory of this size is
+// not refused, so the record that a refusal would give back does not matter.
+pub fn start(memory: &mut [u8; 2048]) -> Progress
+    ensures { λ r. ⌜ (r ≡ started) × (now (memory .exit) ≡ firstMemory) ⌝ }
 {
-    let tag = image::reading::factory(63, 0xE002_2304_01D6_C8F0);
+    let o = host::factory(factory(63, 0), 0xE002_2304_01D6_C8F0, memory);
+    let tag = o.tag;
     Progress {
         tag,
         number: 1,
@@ -147,7 +153,8 @@ pub fn feed(
     room: &mut [u8; 10243],
     out: &mut [u8; 20508],
 ) -> Fed
-    ensures { λ r. ⌜ Gives (fed p byte (now (memory .entry)) (now (room .entry))) (now (out .entry)) (now (memory .exit)) (now (room .exit)) (now (out .exit)) r ⌝ }
+    ensures { λ r. ⌜ Gives (fed p byte (now (memory .entry)) (now (room .entry))) (now (out .entry)) (now (memory .exit)) (now (room .exit))
+        (now (out .exit)) r ⌝ }
 {
     if byte == 0x0A {
         return end_line(p, memory, room, out);
@@ -166,7 +173,8 @@ pub fn finish(
     room: &mut [u8; 10243],
     out: &mut [u8; 20508],
 ) -> Fed
-    ensures { λ r. ⌜ Gives (finished p (now (memory .entry)) (now (room .entry))) (now (out .entry)) (now (memory .exit)) (now (room .exit)) (now (out .exit)) r ⌝ }
+    ensures { λ r. ⌜ Gives (finished p (now (memory .entry)) (now (room .entry))) (now (out .entry)) (now (memory .exit)) (now (room .exit))
+        (now (out .exit)) r ⌝ }
 {
     if p.length == 0 {
         return Fed {

@@ -1,8 +1,8 @@
 // Bytes in lent slices: what a function that writes into lent room promises, numbers of several bytes, lowest byte first,
-// and copies. It knows no tag.
+// copies, and filling. It knows no tag.
 ghost use mathlib.Core.Path.{_≡_};
 ghost use Prim.Native.Nat.{_+_, _*_, _≤_, _<_};
-ghost use lib.ListN.{length, getD, take};
+ghost use lib.ListN.{length, getD, take, replicate};
 ghost use Rattle.put.specs.Put.{Put};
 ghost use Rattle.put.specs.Number.{numberAt, bytesOf};
 
@@ -171,4 +171,15 @@ pub fn copy_all(src: &[u8], out: &mut [u8]) -> usize
     }
     copy(&src[i..], &mut out[i..]);
     src.len()
+}
+
+// Every byte is one value.
+pub fn fill(out: &mut [u8], value: u8)
+    ensures { λ _. ⌜ now (out .exit) ≡ replicate (length (now (out .entry))) value ⌝ }
+{
+    let mut i = 0;
+    while i < out.len() {
+        out[i] = value;
+        i += 1;
+    }
 }

@@ -44,12 +44,10 @@ withVault t v = record { front = t .front; vault = v }
 abbrev pub withKeys : Vault → Keys → Vault
 withKeys v k = record { areas = v .areas; lock0 = v .lock0; lock1 = v .lock1; lockcfg = v .lockcfg; keys = k }
 
-abbrev pub sessionless : Vault → Vault
-sessionless v = withKeys v (record { passwords = v .keys .passwords; session = session.None })
-
+-- "Field off clears passing parts; field on gives Ready": state, round and held answer, of a front whose field comes or goes
 abbrev pub passingCleared : Front → Bool → Front
 passingCleared f on = record { uid = f .uid; afi = f .afi; dsfid = f .dsfid; lockafi = f .lockafi; lockdsfid = f .lockdsfid; field = on; state = Ready; round = round.None; held = held.None }
 
--- "Field off clears passing parts; field on gives Ready"
-abbrev pub powered : Tag → Bool → Tag
-powered t on = record { front = passingCleared (t .front) on; vault = sessionless (t .vault) }
+-- "Field off clears passing parts": of a vault the open session
+abbrev pub sessionless : Vault → Vault
+sessionless v = withKeys v (record { passwords = v .keys .passwords; session = session.None })

@@ -7,7 +7,7 @@ use rights::Vault;
 use rights::Verdict;
 ghost use mathlib.Core.Path.{_≡_};
 ghost use Rattle.record.specs.Tests.{isReady, isQuiet, isSelected, noRound, noneHeld};
-ghost use Rattle.record.specs.Update.{withState, withRound, withHeld, withAfi, withDsfid, withAfiLocked, withDsfidLocked, withFront, withVault, powered};
+ghost use Rattle.record.specs.Update.{withState, withRound, withHeld, withAfi, withDsfid, withAfiLocked, withDsfidLocked, withFront, withVault, passingCleared, sessionless};
 
 pub enum State {
     Ready,
@@ -178,7 +178,7 @@ pub fn set_vault(t: Tag, vault: Vault) -> Tag
 
 // The tag as the field comes or goes: "Field off clears passing parts; field on gives Ready".
 pub fn power(t: Tag, field: bool) -> Tag
-    ensures { λ r. ⌜ r ≡ powered t field ⌝ }
+    ensures { λ r. ⌜ r ≡ record { front = passingCleared (t .front) field; vault = sessionless (t .vault) } ⌝ }
 {
     let f = t.front;
     let v = t.vault;

@@ -43,7 +43,7 @@ each-address P address p04 p05 p06 p07 p08 p09 p0A p0F rest =
 -- ---- reading and writing know the same addresses
 
 abbrev pub isValue : RegisterRead → Bool
-isValue read.Unknown = false
+isValue (read.Error c) = false
 isValue (read.Value x) = true
 
 past : (n a : ℕ) → n ≤ a → (a ≡ n → ⊥) → suc n ≤ a
@@ -64,11 +64,34 @@ no-register address n = rw (ne-eqb _ _ (n .not0F)) (go (leb 0x04 address && leb 
         let past10 = past 10 _ (past 9 _ (past 8 _ (past 7 _ past6 (n .not07)) (n .not08)) (n .not09)) (n .not0A) in
         absurd (too-far address past10 (leb-true address 0x0A (w .1)))
 
+-- "Unknown 10h"
+unknown-read : (v : View) {address : ℕ} → Elsewhere address → registerAt v address ≡ read.Error 0x10
+unfolding registerAt
+unknown-read v n =
+    rw (
+      ne-eqb _ _ (n .not04),
+      ne-eqb _ _ (n .not05),
+      ne-eqb _ _ (n .not06),
+      ne-eqb _ _ (n .not07),
+      ne-eqb _ _ (n .not08),
+      ne-eqb _ _ (n .not09),
+      ne-eqb _ _ (n .not0A),
+      ne-eqb _ _ (n .not0F),
+    )
+
+-- and a read has no other error
+pub read-error : (v : View) (address c : ℕ) → registerAt v address ≡ read.Error c → c ≡ 0x10
+unfolding registerAt
+read-error v address c =
+    each-address (λ (a : ℕ). registerAt v a ≡ read.Error c → c ≡ 0x10) address
+    (λ h. cc) (λ h. cc) (λ h. cc) (λ h. cc) (λ h. cc) (λ h. cc) (λ h. cc) (λ h. cc)
+    (λ n h. cc (unknown-read v n))
+
 pub same-addresses : (v : View) (address : ℕ) → isValue (registerAt v address) ≡ isRegister address
 unfolding registerAt isRegister
 same-addresses v address =
     each-address (λ (a : ℕ). isValue (registerAt v a) ≡ isRegister a) address refl refl refl refl refl refl refl refl
-    (λ n. rw (no-register address n, ne-eqb _ _ (n .not04), ne-eqb _ _ (n .not05), ne-eqb _ _ (n .not06), ne-eqb _ _ (n .not07), ne-eqb _ _ (n .not08), ne-eqb _ _ (n .not09), ne-eqb _ _ (n .not0A), ne-eqb _ _ (n .not0F)))
+    (λ n. rw (no-register address n, unknown-read v n))
 
 -- ---- a register that is written
 

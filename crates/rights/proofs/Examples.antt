@@ -7,11 +7,13 @@ use mathlib.Core.List.{List, [], _∷_, map}
 use Rattle.rights.specs.declared.Areas.{Areas}
 use Rattle.rights.specs.declared.Vault.{Vault}
 use Rattle.rights.specs.declared.Session.the-variants.{Configuration}
-use Rattle.rights.specs.declared.registers.Written.{Written}
-use Rattle.rights.specs.declared.registers.Written.the-variants.{NotAllowed, Done}
+use Rattle.rights.specs.declared.Verdict.{Verdict}
+use Rattle.rights.specs.declared.Verdict.the-variants.{Success, Error}
+use Rattle.rights.specs.Vault.{viewOf}
+use Rattle.rights.specs.Verdict.{afterVerdict}
 use Rattle.rights.specs.Passwords.{isOpen}
 use Rattle.rights.specs.Blocks.{areaOf}
-use Rattle.rights.specs.Registers.{isRegister, allows, permits, writtenOf, withRegister, registerWriteOf}
+use Rattle.rights.specs.Registers.{isRegister, allows, permits, registerVerdict, withRegister}
 
 abbrev pub ends : ℕ → ℕ → ℕ → Areas
 ends x y z = record { rfa1ss = 0; enda1 = x; rfa2ss = 0; enda2 = y; rfa3ss = 0; enda3 = z; rfa4ss = 0 }
@@ -53,30 +55,32 @@ places-hold = refl
 pub record Step : Type 0 where
   pub address : ℕ
   pub value : ℕ
-  pub answer : Written
+  pub answer : Verdict
 
-abbrev pub step : ℕ → ℕ → Written → Step
-step a v w = record { address = a; value = v; answer = w }
+abbrev pub step : ℕ → ℕ → Verdict → Step
+step a v d = record { address = a; value = v; answer = d }
 
 pub steps : List Step
 steps =
-    step 0x09 0xFF NotAllowed
-    ∷ step 0x05 0x3F Done
-    ∷ step 0x07 0x5F Done
-    ∷ step 0x09 0xBF Done
-    ∷ step 0x09 0xFF Done
-    ∷ step 0x07 0xFF Done
-    ∷ step 0x05 0x7F Done
+    step 0x09 0xFF (Error 0x13)
+    ∷ step 0x05 0x3F Success
+    ∷ step 0x07 0x5F Success
+    ∷ step 0x09 0xBF Success
+    ∷ step 0x09 0xFF Success
+    ∷ step 0x07 0xFF Success
+    ∷ step 0x05 0x7F Success
     ∷ []
 
 pub configured : Vault
 configured =
     record { areas = ends 0x10 0xFF 0xFF; lock0 = false; lock1 = false; lockcfg = false; keys = record { passwords = 0 ∷ 0 ∷ 0 ∷ 0 ∷ []; session = Configuration } }
 
-pub answers : Vault → List Step → List Written
+pub answers : Vault → List Step → List Verdict
 answers v [] = []
-answers v (s ∷ ss) = let w = registerWriteOf 255 v (s .address) (s .value) in w .answer ∷ answers (w .vault) ss
+answers v (s ∷ ss) =
+    let d = registerVerdict 255 (viewOf v) (s .address) (s .value) in
+    d ∷ answers (afterVerdict d v (withRegister v (s .address) (s .value))) ss
 
 pub steps-hold : answers configured steps ≡ map (λ (s : Step). s .answer) steps
-unfolding steps configured answers isOpen isRegister allows permits writtenOf withRegister registerWriteOf
+unfolding steps configured answers isOpen isRegister allows permits registerVerdict withRegister
 steps-hold = refl

@@ -6,7 +6,7 @@ use mathlib.Core.Bool.{Bool, true, false, not, _&&_, _||_}
 use Prim.Native.Nat.{ℕ, suc, _+_, _≤_, _<_}
 use native.Mathlib.Omega.{arith}
 use lib.Dec.{leb, ltb, eqb}
-use borrow.Author.Tests.{leb-true, leb-false, ltb-false, le-leb, le-ltb, eq-eqb, ne-eqb, eqb-true}
+use borrow.Author.Tests.{leb-true, leb-false, ltb-false, le-leb, le-ltb, eq-eqb, ne-eqb, eqb-true, not-false}
 use Rattle.put.specs.If.{if_then_else_}
 use Rattle.rights.specs.declared.Keys.{Keys}
 use Rattle.rights.specs.declared.Session.{Session}
@@ -14,16 +14,12 @@ use Rattle.rights.specs.declared.Session.the-variants.{None}
 use Rattle.rights.specs.declared.View.{View}
 use Rattle.rights.specs.declared.Verdict.the-variants.{Success}
 use Rattle.rights.specs.declared.passwords.Presentation.{Presentation}
-use Rattle.rights.specs.declared.passwords.Changed.{Changed}
-use Rattle.rights.specs.declared.passwords.Changed.the-variants as changed
-use Rattle.rights.specs.declared.registers.Written.{Written}
-use Rattle.rights.specs.declared.registers.Written.the-variants as written
-use Rattle.rights.specs.Passwords.{sessionOf, isOpen, passwordOf, presentOf, changedOf, changedVerdict}
+use Rattle.rights.specs.Passwords.{sessionOf, isOpen, passwordOf, presentOf}
 use Rattle.rights.specs.Blocks.{areaOf, registerOf, named, protection, serves, mayRead, readableAt, writableAt, lockedAt, barredAt, anyBarred, hiddenBy, inSession, OnlyThis, OnlyThese}
-use Rattle.rights.specs.Registers.{permits, writtenOf, writtenVerdict}
+use Rattle.rights.specs.Registers.{permits, registerVerdict}
 use Rattle.rights.proofs.Cases.{if-one, if-both, both, join}
 use Rattle.rights.proofs.Borders.{hidden-in, hidden-unreadable, hidden-unwritable}
-use Rattle.rights.proofs.Sessions.{opens-alone, change-open}
+use Rattle.rights.proofs.Sessions.{opens-alone}
 use Rattle.rights.proofs.Possible.{done-allowed}
 
 -- of two tests that never both hold, one holds
@@ -139,9 +135,9 @@ module _ (guarding : ℕ → Bool) (k : Keys)
   unfolding presentOf
   present-shut =
       if-one Stays (ltb 3 n) (λ over. shut) (λ within.
-      if-one Stays (eqb (passwordOf k n) w)
-      (λ right c g. go right c g (ltb-false 3 n within) (eqb c n) refl)
-      (λ wrong c g. none-open c))
+      if-one Stays (not (eqb (passwordOf k n) w))
+      (λ wrong c g. none-open c)
+      (λ right c g. go (not-false _ right) c g (ltb-false 3 n within) (eqb c n) refl))
     where
       go : eqb (passwordOf k n) w ≡ true → (c : ℕ) → guarding c ≡ true → n ≤ 3 → (same : Bool) → eqb c n ≡ same → isOpen (sessionOf n) c ≡ false
       go right c g h true e =
@@ -162,24 +158,9 @@ unfolding presentOf
 present-same k l n w s e =
     rw e
     (if-both SamePresented (ltb 3 n) (record { answer = refl; session = s })
-    (if-both SamePresented (eqb (passwordOf l n) w) (record { answer = refl; session = refl }) (record { answer = refl; session = refl })))
+    (if-both SamePresented (not (eqb (passwordOf l n) w)) (record { answer = refl; session = refl }) (record { answer = refl; session = refl })))
 
--- ---- what succeeds only in a session
-
-pub changed-open : (s : Session) (n : ℕ) → changedVerdict (changedOf s n) ≡ Success → isOpen s n ≡ true
-changed-open s n h = go (changedOf s n) refl h
-  where
-    go : (c : Changed) → changedOf s n ≡ c → changedVerdict c ≡ Success → isOpen s n ≡ true
-    go changed.NumberOver e h = let z : _≡_ {A = ℕ} 0 1 = cc in absurd (omega arith)
-    go changed.NotOpen e h = let z : _≡_ {A = ℕ} 0 1 = cc in absurd (omega arith)
-    go changed.Replaced e h = change-open s n e
-
-pub written-open : (e : ℕ) (v : View) (address x : ℕ) → writtenVerdict (writtenOf e v address x) ≡ Success → isOpen (v .session) 0 ≡ true
+-- a register is written only in the configuration session
+pub written-open : (e : ℕ) (v : View) (address x : ℕ) → registerVerdict e v address x ≡ Success → isOpen (v .session) 0 ≡ true
 unfolding permits
-written-open e v address x h = go (writtenOf e v address x) refl h
-  where
-    go : (w : Written) → writtenOf e v address x ≡ w → writtenVerdict w ≡ Success → isOpen (v .session) 0 ≡ true
-    go written.Unknown q h = let z : _≡_ {A = ℕ} 0 1 = cc in absurd (omega arith)
-    go written.NotPermitted q h = let z : _≡_ {A = ℕ} 0 1 = cc in absurd (omega arith)
-    go written.NotAllowed q h = let z : _≡_ {A = ℕ} 0 1 = cc in absurd (omega arith)
-    go written.Done q h = both (isOpen (v .session) 0) (not (v .lockcfg)) (done-allowed e v address x q .0) .0
+written-open e v address x h = both (isOpen (v .session) 0) (not (v .lockcfg)) (done-allowed e v address x h .0) .0

@@ -12,10 +12,8 @@ use Rattle.rights.specs.declared.Vault.{Vault}
 use Rattle.rights.specs.declared.View.{View}
 use Rattle.rights.specs.declared.Verdict.{Verdict}
 use Rattle.rights.specs.declared.Verdict.the-variants.{Success, Error}
-use Rattle.rights.specs.declared.registers.Written.{Written}
-use Rattle.rights.specs.declared.registers.Written.the-variants as written
 use Rattle.rights.specs.Vault.{viewOf}
-use Rattle.rights.specs.Registers.{isRegister, allows, permits, writtenOf, withRegister, writtenVerdict, registerWriteOf, registerRule, endRule, pairRule, possible}
+use Rattle.rights.specs.Registers.{isRegister, allows, permits, registerVerdict, withRegister, registerRule, endRule, pairRule, possible}
 use Rattle.rights.specs.Verdict.{afterVerdict}
 use Rattle.rights.proofs.Cases.{or-true, not-or, both, join}
 use Rattle.rights.proofs.Addresses.{each-address, nothing-written}
@@ -148,31 +146,32 @@ module _ (e : ℕ) (v : Vault) (x : ℕ) (p : Possible e (v .areas)) where
       each-address Keeps address rfa1ss enda1 rfa2ss enda2 rfa3ss enda3 rfa4ss lockcfg (λ n h. rw (nothing-written v x n) p)
 
 -- a write is done only where it is permitted and allowed
-pub done-allowed : (e : ℕ) (v : View) (address x : ℕ) → writtenOf e v address x ≡ written.Done → (permits v ≡ true) × (allows e (v .areas) address x ≡ true)
-unfolding writtenOf
+pub done-allowed : (e : ℕ) (v : View) (address x : ℕ) → registerVerdict e v address x ≡ Success → (permits v ≡ true) × (allows e (v .areas) address x ≡ true)
+unfolding registerVerdict
 done-allowed e v address x h = go (isRegister address) (permits v) (allows e (v .areas) address x) h
   where
-    go : (r p a : Bool) → (if not r then written.Unknown else if not p then written.NotPermitted else if not a then written.NotAllowed else written.Done) ≡ written.Done → (p ≡ true) × (a ≡ true)
+    go : (r p a : Bool) → (if not r then Error 0x10 else if not p then Error 0x0F else if not a then Error 0x13 else Success) ≡ Success
+        → (p ≡ true) × (a ≡ true)
     go false p a h = let z : _≡_ {A = ℕ} 0 1 = cc in absurd (omega arith)
     go true false a h = let z : _≡_ {A = ℕ} 0 1 = cc in absurd (omega arith)
     go true true false h = let z : _≡_ {A = ℕ} 0 1 = cc in absurd (omega arith)
     go true true true h = (refl, refl)
 
 -- the registers after a write that is done
-pub done-possible : (e : ℕ) (v : Vault) (address x : ℕ) → possible e (v .areas) ≡ true → writtenOf e (viewOf v) address x ≡ written.Done → possible e (withRegister v address x .areas) ≡ true
+pub done-possible : (e : ℕ) (v : Vault) (address x : ℕ) → possible e (v .areas) ≡ true → registerVerdict e (viewOf v) address x ≡ Success
+    → possible e (withRegister v address x .areas) ≡ true
 done-possible e v address x p h = ruled (keeps e v x (rules p) address (done-allowed e (viewOf v) address x h .1))
 
-after : (e : ℕ) (v : Vault) (address x : ℕ) (w : Written) → possible e (v .areas) ≡ true → (w ≡ written.Done → possible e (withRegister v address x .areas) ≡ true) → possible e ((afterVerdict (writtenVerdict w) v (withRegister v address x)) .areas) ≡ true
-after e v address x written.Unknown p h = p
-after e v address x written.NotPermitted p h = p
-after e v address x written.NotAllowed p h = p
-after e v address x written.Done p h = h refl
+after : (e : ℕ) (v u : Vault) (d : Verdict) → possible e (v .areas) ≡ true → (d ≡ Success → possible e (u .areas) ≡ true)
+    → possible e (afterVerdict d v u .areas) ≡ true
+after e v u Success p h = h refl
+after e v u (Error c) p h = p
 
 -- the theorem: whatever is written, possible registers stay possible, for any E
-pub stays-possible : (e : ℕ) (v : Vault) (address x : ℕ) → possible e (v .areas) ≡ true → possible e (registerWriteOf e v address x .vault .areas) ≡ true
-unfolding registerWriteOf
+pub stays-possible : (e : ℕ) (v : Vault) (address x : ℕ) → possible e (v .areas) ≡ true
+    → possible e (afterVerdict (registerVerdict e (viewOf v) address x) v (withRegister v address x) .areas) ≡ true
 stays-possible e v address x p =
-    after e v address x (writtenOf e (viewOf v) address x) p (done-possible e v address x p)
+    after e v (withRegister v address x) (registerVerdict e (viewOf v) address x) p (done-possible e v address x p)
 
 -- a factory tag's registers
 pub all-at-end : (e : ℕ) → possible e (record { rfa1ss = 0; enda1 = e; rfa2ss = 0; enda2 = e; rfa3ss = 0; enda3 = e; rfa4ss = 0 }) ≡ true
@@ -184,13 +183,3 @@ all-at-end e =
       registers = record { first = refl; second = refl; third = refl; fourth = refl };
       ends = record { first = own; second = own; pair12 = pair; third = own; pair23 = pair };
     })
-
--- what a write gives, by its parts
-pub write-is : (e : ℕ) (v : Vault) (address x : ℕ) → registerWriteOf e v address x ≡ record { answer = writtenOf e (viewOf v) address x; vault = afterVerdict (writtenVerdict (writtenOf e (viewOf v) address x)) v (withRegister v address x) }
-unfolding registerWriteOf
-write-is e v address x = refl
-
--- what stays or is made new, seen through a function
-pub verdict-over {ℓ κ} : {A : Type ℓ} {B : Type κ} (f : A → B) (v : Verdict) (old new : A) → f (afterVerdict v old new) ≡ afterVerdict v (f old) (f new)
-verdict-over f Success old new = refl
-verdict-over f (Error c) old new = refl

@@ -27,7 +27,7 @@ at-most-one false = omega arith
 
 -- the byte that is read of a register
 abbrev pub told : RegisterRead → List ℕ
-told read.Unknown = []
+told (read.Error c) = []
 told (read.Value x) = x ∷ []
 
 abbrev Told : RegisterRead → Type 0

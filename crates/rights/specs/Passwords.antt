@@ -1,7 +1,7 @@
 -- "Passwords and registers", the passwords: presenting and changing one.
 -- Assumes nothing.
 use Prim.Native.Nat.{ℕ}
-use mathlib.Core.Bool.{Bool, true, false}
+use mathlib.Core.Bool.{Bool, true, false, not}
 use lib.ListN.{getD, set}
 use lib.Dec.{ltb, eqb}
 use Rattle.put.specs.If.{if_then_else_}
@@ -10,13 +10,7 @@ use Rattle.rights.specs.declared.Session.the-variants.{None, Configurati
 use Rattle.rights.specs.declared.Keys.{Keys}
 use Rattle.rights.specs.declared.Verdict.{Verdict}
 use Rattle.rights.specs.declared.Verdict.the-variants.{Success, Error}
-use Rattle.rights.specs.Verdict.{afterVerdict}
-use Rattle.rights.specs.declared.passwords.Presented.{Presented}
-use Rattle.rights.specs.declared.passwords.Presented.the-variants as presented
 use Rattle.rights.specs.declared.passwords.Presentation.{Presentation}
-use Rattle.rights.specs.declared.passwords.Changed.{Changed}
-use Rattle.rights.specs.declared.passwords.Changed.the-variants as changed
-use Rattle.rights.specs.declared.passwords.PasswordChange.{PasswordChange}
 
 -- "four 64-bit passwords (number 0 is configuration)": the session that each opens
 unfoldable pub sessionOf : ℕ → Session
@@ -47,34 +41,19 @@ passwordOf k n = getD (k .passwords) n 0
 abbrev pub withSession : Keys → Session → Keys
 withSession k s = record { passwords = k .passwords; session = s }
 
-abbrev pub withPassword : Keys → ℕ → ℕ → Keys
-withPassword k n w = record { passwords = set (k .passwords) n w; session = k .session }
-
 -- "Present B3h .. number over 3 is 10h, sessions unchanged. Wrong value: 0Fh, no session open. Right: that session alone is open."
 unfoldable pub presentOf : Keys → ℕ → ℕ → Presentation
 presentOf k n w =
-    if ltb 3 n then record { answer = presented.NumberOver; keys = k } else
-    if eqb (passwordOf k n) w then record { answer = presented.Right; keys = withSession k (sessionOf n) } else
-    record { answer = presented.Wrong; keys = withSession k None }
+    if ltb 3 n then record { answer = Error 0x10; keys = k } else
+    if not (eqb (passwordOf k n) w) then record { answer = Error 0x0F; keys = withSession k None } else
+    record { answer = Success; keys = withSession k (sessionOf n) }
 
--- "Write password B1h, same fields: number over 3 is 10h; its session not open 0Fh; otherwise replaced, session kept."
-unfoldable pub changedOf : Session → ℕ → Changed
-changedOf s n =
-    if ltb 3 n then changed.NumberOver else
-    if isOpen s n then changed.Replaced else changed.NotOpen
+-- "Write password B1h, same fields: number over 3 is 10h; its session not open 0Fh"
+unfoldable pub changeVerdict : Session → ℕ → Verdict
+changeVerdict s n =
+    if ltb 3 n then Error 0x10 else
+    if not (isOpen s n) then Error 0x0F else Success
 
--- the codes of 01 for each case
-abbrev pub presentedVerdict : Presented → Verdict
-presentedVerdict presented.NumberOver = Error 0x10
-presentedVerdict presented.Wrong = Error 0x0F
-presentedVerdict presented.Right = Success
-
-abbrev pub changedVerdict : Changed → Verdict
-changedVerdict changed.NumberOver = Error 0x10
-changedVerdict changed.NotOpen = Error 0x0F
-changedVerdict changed.Replaced = Success
-
-unfoldable pub changeOf : Keys → ℕ → ℕ → PasswordChange
-changeOf k n w =
-    let c = changedOf (k .session) n in
-    record { answer = c; keys = afterVerdict (changedVerdict c) k (withPassword k n w) }
+-- "otherwise replaced, session kept"
+abbrev pub withPassword : Keys → ℕ → ℕ → Keys
+withPassword k n w = record { passwords = set (k .passwords) n w; session = k .session }

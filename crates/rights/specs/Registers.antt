@@ -12,11 +12,6 @@ use Rattle.rights.specs.declared.Verdict.{Verdict}
 use Rattle.rights.specs.declared.Verdict.the-variants.{Success, Error}
 use Rattle.rights.specs.declared.registers.RegisterRead.{RegisterRead}
 use Rattle.rights.specs.declared.registers.RegisterRead.the-variants as read
-use Rattle.rights.specs.declared.registers.Written.{Written}
-use Rattle.rights.specs.declared.registers.Written.the-variants as written
-use Rattle.rights.specs.declared.registers.RegisterWrite.{RegisterWrite}
-use Rattle.rights.specs.Vault.{viewOf}
-use Rattle.rights.specs.Verdict.{afterVerdict}
 use Rattle.rights.specs.Passwords.{isOpen}
 
 -- a bit, as a byte
@@ -38,7 +33,7 @@ registerAt v address =
     if eqb address 0x08 then read.Value (v .areas .rfa3ss) else
     if eqb address 0x09 then read.Value (v .areas .enda3) else
     if eqb address 0x0A then read.Value (v .areas .rfa4ss) else
-    if eqb address 0x0F then read.Value (oneIf (v .lockcfg)) else read.Unknown
+    if eqb address 0x0F then read.Value (oneIf (v .lockcfg)) else read.Error 0x10
 
 -- the addresses of registers: 04h to 0Ah and 0Fh
 unfoldable pub isRegister : ℕ → Bool
@@ -57,11 +52,11 @@ unfoldable pub permits : View → Bool
 permits v = isOpen (v .session) 0 && not (v .lockcfg)
 
 -- "Unknown 10h; for a write, configuration session closed or LOCK_CFG set 0Fh; value not allowed 13h."
-unfoldable pub writtenOf : ℕ → View → ℕ → ℕ → Written
-writtenOf e v address x =
-    if not (isRegister address) then written.Unknown else
-    if not (permits v) then written.NotPermitted else
-    if not (allows e (v .areas) address x) then written.NotAllowed else written.Done
+unfoldable pub registerVerdict : ℕ → View → ℕ → ℕ → Verdict
+registerVerdict e v address x =
+    if not (isRegister address) then Error 0x10 else
+    if not (permits v) then Error 0x0F else
+    if not (allows e (v .areas) address x) then Error 0x13 else Success
 
 abbrev pub withAreas : Vault → Areas → Vault
 withAreas v a = record { areas = a; lock0 = v .lock0; lock1 = v .lock1; lockcfg = v .lockcfg; keys = v .keys }
@@ -78,18 +73,6 @@ withRegister v address x =
     if eqb address 0x09 then withAreas v (record { rfa1ss = a .rfa1ss; enda1 = a .enda1; rfa2ss = a .rfa2ss; enda2 = a .enda2; rfa3ss = a .rfa3ss; enda3 = x; rfa4ss = a .rfa4ss }) else
     if eqb address 0x0A then withAreas v (record { rfa1ss = a .rfa1ss; enda1 = a .enda1; rfa2ss = a .rfa2ss; enda2 = a .enda2; rfa3ss = a .rfa3ss; enda3 = a .enda3; rfa4ss = x }) else
     if eqb address 0x0F then record { areas = a; lock0 = v .lock0; lock1 = v .lock1; lockcfg = eqb x 0x01; keys = v .keys } else v
-
--- the codes of 01 for each case
-abbrev pub writtenVerdict : Written → Verdict
-writtenVerdict written.Unknown = Error 0x10
-writtenVerdict written.NotPermitted = Error 0x0F
-writtenVerdict written.NotAllowed = Error 0x13
-writtenVerdict written.Done = Success
-
-unfoldable pub registerWriteOf : ℕ → Vault → ℕ → ℕ → RegisterWrite
-registerWriteOf e v address x =
-    let w = writtenOf e (viewOf v) address x in
-    record { answer = w; vault = afterVerdict (writtenVerdict w) v (withRegister v address x) }
 
 -- ---- "Record rules", those of the registers
 

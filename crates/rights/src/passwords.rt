@@ -3,27 +3,16 @@ use super::Keys;
 use super::Session;
 use super::Verdict;
 ghost use mathlib.Core.Path.{_≡_};
-ghost use Rattle.rights.specs.Passwords.{isOpen, anyOpen, sessionOf, presentOf, changeOf, presentedVerdict, changedVerdict};
-
-pub enum Presented {
-    NumberOver,
-    Wrong,
-    Right,
-}
+ghost use Rattle.rights.specs.Verdict.{afterVerdict};
+ghost use Rattle.rights.specs.Passwords.{isOpen, anyOpen, sessionOf, presentOf, changeVerdict, withPassword};
 
 pub struct Presentation {
-    pub answer: Presented,
+    pub answer: Verdict,
     pub keys: Keys,
 }
 
-pub enum Changed {
-    NumberOver,
-    NotOpen,
-    Replaced,
-}
-
 pub struct PasswordChange {
-    pub answer: Changed,
+    pub answer: Verdict,
     pub keys: Keys,
 }
 
@@ -65,73 +54,60 @@ fn session_of(n: u8) -> Session
     }
 }
 
+// "Present B3h .. number over 3 is 10h, sessions unchanged. Wrong value: 0Fh, no session open. Right: that session alone is open."
 pub fn present(k: Keys, n: u8, value: u64) -> Presentation
     ensures { λ r. ⌜ r ≡ presentOf k n value ⌝ }
 {
     if n > 3 {
         return Presentation {
-            answer: Presented::NumberOver,
+            answer: Verdict::Error(0x10),
             keys: k,
         };
     }
     let i = n as usize;
-    if k.passwords[i] == value {
-        let session = session_of(n);
+    if k.passwords[i] != value {
         return Presentation {
-            answer: Presented::Right,
-            keys: Keys { session, ..k },
+            answer: Verdict::Error(0x0F),
+            keys: Keys {
+                session: Session::None,
+                ..k
+            },
         };
     }
+    let session = session_of(n);
     Presentation {
-        answer: Presented::Wrong,
-        keys: Keys {
-            session: Session::None,
-            ..k
-        },
+        answer: Verdict::Success,
+        keys: Keys { session, ..k },
     }
 }
 
-pub fn change(k: Keys, n: u8, value: u64) -> PasswordChange
-    ensures { λ r. ⌜ r ≡ changeOf k n value ⌝ }
+// "Write password B1h .. number over 3 is 10h; its session not open 0Fh"
+fn change_verdict(s: Session, n: u8) -> Verdict
+    ensures { λ r. ⌜ r ≡ changeVerdict s n ⌝ }
 {
     if n > 3 {
-        return PasswordChange {
-            answer: Changed::NumberOver,
-            keys: k,
-        };
+        return Verdict::Error(0x10);
     }
+    if !is_open(s, n) {
+        return Verdict::Error(0x0F);
+    }
+    Verdict::Success
+}
+
+// "otherwise replaced, session kept"
+pub fn change(k: Keys, n: u8, value: u64) -> PasswordChange
+    ensures { λ r. ⌜ r .answer ≡ changeVerdict (k .session) n ⌝ }
+    ensures { λ r. ⌜ r .keys ≡ afterVerdict (changeVerdict (k .session) n) k (withPassword k n value) ⌝ }
+{
     let s = k.session;
-    if is_open(s, n) {
-        let mut next = k;
-        let i = n as usize;
-        next.passwords[i] = value;
-        return PasswordChange {
-            answer: Changed::Replaced,
-            keys: next,
-        };
-    }
-    PasswordChange {
-        answer: Changed::NotOpen,
-        keys: k,
-    }
-}
-
-pub fn presented_verdict(p: Presented) -> Verdict
-    ensures { λ r. ⌜ r ≡ presentedVerdict p ⌝ }
-{
-    match p {
-        Presented::NumberOver => Verdict::Error(0x10),
-        Presented::Wrong => Verdict::Error(0x0F),
-        Presented::Right => Verdict::Success,
-    }
-}
-
-pub fn changed_verdict(c: Changed) -> Verdict
-    ensures { λ r. ⌜ r ≡ changedVerdict c ⌝ }
-{
-    match c {
-        Changed::NumberOver => Verdict::Error(0x10),
-        Changed::NotOpen => Verdict::Error(0x0F),
-        Changed::Replaced => Verdict::Success,
+    let answer = change_verdict(s, n);
+    match answer {
+        Verdict::Success => {
+            let mut keys = k;
+            let i = n as usize;
+            keys.passwords[i] = value;
+            PasswordChange { answer, keys }
+        }
+        Verdict::Error(_) => PasswordChange { answer, keys: k },
     }
 }

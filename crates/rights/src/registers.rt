@@ -7,22 +7,17 @@ use super::passwords::is_open;
 ghost use mathlib.Core.Path.{_≡_};
 ghost use mathlib.Core.Bool.{_&&_};
 ghost use Prim.Native.Nat.{_≤_};
-ghost use Rattle.rights.specs.Registers.{oneIf, registerAt, isRegister, allows, permits, writtenOf, withRegister, registerWriteOf, writtenVerdict, endRule, pairRule, possible};
+ghost use Rattle.rights.specs.Vault.{viewOf};
+ghost use Rattle.rights.specs.Verdict.{afterVerdict};
+ghost use Rattle.rights.specs.Registers.{oneIf, registerAt, isRegister, allows, permits, registerVerdict, withRegister, endRule, pairRule, possible};
 
 pub enum RegisterRead {
-    Unknown,
+    Error(u8),
     Value(u8),
 }
 
-pub enum Written {
-    Unknown,
-    NotPermitted,
-    NotAllowed,
-    Done,
-}
-
 pub struct RegisterWrite {
-    pub answer: Written,
+    pub answer: Verdict,
     pub vault: Vault,
 }
 
@@ -49,7 +44,7 @@ pub fn read_register(v: View, address: u8) -> RegisterRead
         0x09 => RegisterRead::Value(a.enda3),
         0x0A => RegisterRead::Value(a.rfa4ss),
         0x0F => RegisterRead::Value(one_if(v.lockcfg)),
-        _ => RegisterRead::Unknown,
+        _ => RegisterRead::Error(0x10),
     }
 }
 
@@ -78,20 +73,20 @@ fn permitted(v: View) -> bool
     is_open(s, 0) & !v.lockcfg
 }
 
-fn write_answer(e: u8, v: View, address: u8, value: u8) -> Written
-    ensures { λ r. ⌜ r ≡ writtenOf e v address value ⌝ }
+fn register_verdict(e: u8, v: View, address: u8, value: u8) -> Verdict
+    ensures { λ r. ⌜ r ≡ registerVerdict e v address value ⌝ }
 {
     if !is_register(address) {
-        return Written::Unknown;
+        return Verdict::Error(0x10);
     }
     if !permitted(v) {
-        return Written::NotPermitted;
+        return Verdict::Error(0x0F);
     }
     let a = v.areas;
     if !allowed(e, a, address, value) {
-        return Written::NotAllowed;
+        return Verdict::Error(0x13);
     }
-    Written::Done
+    Verdict::Success
 }
 
 fn set_register(mut v: Vault, address: u8, value: u8) -> Vault
@@ -113,29 +108,17 @@ fn set_register(mut v: Vault, address: u8, value: u8) -> Vault
 
 // A write of a register, of a tag whose last end is e.
 pub fn write_register(e: u8, v: Vault, address: u8, value: u8) -> RegisterWrite
-    ensures { λ r. ⌜ r ≡ registerWriteOf e v address value ⌝ }
+    ensures { λ r. ⌜ r .answer ≡ registerVerdict e (viewOf v) address value ⌝ }
+    ensures { λ r. ⌜ r .vault ≡ afterVerdict (registerVerdict e (viewOf v) address value) v (withRegister v address value) ⌝ }
 {
     let view = super::seen(v);
-    let answer = write_answer(e, view, address, value);
+    let answer = register_verdict(e, view, address, value);
     match answer {
-        Written::Unknown => RegisterWrite { answer, vault: v },
-        Written::NotPermitted => RegisterWrite { answer, vault: v },
-        Written::NotAllowed => RegisterWrite { answer, vault: v },
-        Written::Done => RegisterWrite {
+        Verdict::Success => RegisterWrite {
             answer,
             vault: set_register(v, address, value),
         },
-    }
-}
-
-pub fn written_verdict(w: Written) -> Verdict
-    ensures { λ v. ⌜ v ≡ writtenVerdict w ⌝ }
-{
-    match w {
-        Written::Unknown => Verdict::Error(0x10),
-        Written::NotPermitted => Verdict::Error(0x0F),
-        Written::NotAllowed => Verdict::Error(0x13),
-        Written::Done => Verdict::Success,
+        Verdict::Error(_) => RegisterWrite { answer, vault: v },
     }
 }
 

@@ -6,22 +6,18 @@ use mathlib.Core.Path.{_≡_, refl, sym, ap, subst}
 use mathlib.Core.List.{List, [], _∷_}
 use Rattle.put.specs.If.{if_then_else_}
 use Rattle.put.specs.Put.{Put}
-use Rattle.rights.specs.declared.Keys.{Keys}
-use Rattle.rights.specs.declared.Vault.{Vault}
 use Rattle.rights.specs.declared.View.{View}
 use Rattle.rights.specs.declared.Verdict.{Verdict}
 use Rattle.rights.specs.declared.Verdict.the-variants.{Success, Error}
 use Rattle.rights.specs.Verdict.{afterVerdict}
 use Rattle.rights.specs.Vault.{viewOf}
-use Rattle.rights.specs.Passwords.{withPassword, changedOf, changedVerdict, changeOf}
-use Rattle.rights.specs.Registers.{withRegister, writtenOf, writtenVerdict, registerWriteOf}
-use Rattle.rights.proofs.Sessions.{change-is}
-use Rattle.rights.proofs.Possible.{write-is, verdict-over}
+use Rattle.rights.specs.Passwords.{withPassword}
+use Rattle.rights.specs.Registers.{withRegister}
 use Rattle.record.specs.declared.Front.{Front}
 use Rattle.record.specs.declared.Tag.{Tag}
 use Rattle.record.specs.declared.Round.{Round}
 use Rattle.record.specs.declared.Held.{Held}
-use Rattle.record.specs.Update.{withFront, withVault, withKeys, passingCleared, powered}
+use Rattle.record.specs.Update.{withFront, withVault, withKeys, passingCleared, sessionless}
 use Rattle.tag.specs.declared.Command.{Command}
 use Rattle.tag.specs.declared.Entry.{Entry}
 use Rattle.tag.specs.Work.{Answer, silence, verdict, body, Unit, register, password, says, writes, closes, work, applyToTag, applyToMemory, perform}
@@ -60,25 +56,19 @@ module _ (hold : Bool) (t : Tag) {x x′ : List ℕ} {r : Said} where
   written (Error c) us e d m = d m
 
   -- a password changed, and a register written, as rights gives them
-  pub password-written : (n w : ℕ)
-      → Does hold (withVault t (withKeys (t .vault) (changeOf (t .vault .keys) n w .keys)))
-      (says (verdict (changedVerdict (changeOf (t .vault .keys) n w .answer)))) x x′ r
-      → Does hold t (granted (changedVerdict (changedOf (t .vault .keys .session) n)) (writes (password n w ∷ []))) x x′ r
-  unfolding applyToTag applyToMemory
-  password-written n w d =
-      let v = changedVerdict (changedOf (t .vault .keys .session) n) in
-      written v (password n w ∷ []) (λ m. refl)
-      (rw (change-is, verdict-over (λ (k : Keys). withVault t (withKeys (t .vault) k)) v (t .vault .keys) (withPassword (t .vault .keys) n w)) at d)
+  pub password-written : (v : Verdict) (n w : ℕ)
+      → Does hold (withVault t (withKeys (t .vault) (afterVerdict v (t .vault .keys) (withPassword (t .vault .keys) n w)))) (says (verdict v)) x x′ r
+      → Does hold t (granted v (writes (password n w ∷ []))) x x′ r
+  unfolding perform applyToTag applyToMemory
+  password-written Success n w d m = d m
+  password-written (Error c) n w d m = d m
 
-  pub register-written : (e address value : ℕ)
-      → Does hold (withVault t (registerWriteOf e (t .vault) address value .vault))
-      (says (verdict (writtenVerdict (registerWriteOf e (t .vault) address value .answer)))) x x′ r
-      → Does hold t (granted (writtenVerdict (writtenOf e (viewOf (t .vault)) address value)) (writes (register address value ∷ []))) x x′ r
-  unfolding applyToTag applyToMemory
-  register-written e address value d =
-      let v = writtenVerdict (writtenOf e (viewOf (t .vault)) address value) in
-      written v (register address value ∷ []) (λ m. refl)
-      (rw (write-is, verdict-over (λ (u : Vault). withVault t u) v (t .vault) (withRegister (t .vault) address value)) at d)
+  pub register-written : (v : Verdict) (address value : ℕ)
+      → Does hold (withVault t (afterVerdict v (t .vault) (withRegister (t .vault) address value))) (says (verdict v)) x x′ r
+      → Does hold t (granted v (writes (register address value ∷ []))) x x′ r
+  unfolding perform applyToTag applyToMemory
+  register-written Success address value d m = d m
+  register-written (Error c) address value d m = d m
 
 -- and blocks, which touch the memory alone
 pub blocks-written : (hold : Bool) (t : Tag) (first n : ℕ) (bytes m m′ : List ℕ) {x x′ : List ℕ} {r : Said}
@@ -116,15 +106,17 @@ module _ (t : Tag) (m : List ℕ) {x m′ x′ : List ℕ} {s : Said} where
 
 on-by : (b : Bool) (t : Tag) (m x : List ℕ)
     → Gives (performed t m (if b then work (t .front) (says silence) else work (passingCleared (t .front) true) closes)) x m x
-    (record { length = 0; tag = if b then t else powered t true })
+    (record { length = 0; tag = if b then t else record { front = passingCleared (t .front) true; vault = sessionless (t .vault) } })
 unfolding perform
 on-by true t m x = record { result = refl; memory = refl; room = refl }
 on-by false t m x = record { result = refl; memory = refl; room = refl }
 
-pub field-on : (t : Tag) (m x : List ℕ) → Gives (step t m fieldOn) x m x (record { length = 0; tag = if t .front .field then t else powered t true })
+pub field-on : (t : Tag) (m x : List ℕ) → Gives (step t m fieldOn) x m x
+    (record { length = 0; tag = if t .front .field then t else record { front = passingCleared (t .front) true; vault = sessionless (t .vault) } })
 unfolding step workOf
 field-on t m x = on-by (t .front .field) t m x
 
-pub field-off : (t : Tag) (m x : List ℕ) → Gives (step t m fieldOff) x m x (record { length = 0; tag = powered t false })
+pub field-off : (t : Tag) (m x : List ℕ) → Gives (step t m fieldOff) x m x
+    (record { length = 0; tag = record { front = passingCleared (t .front) false; vault = sessionless (t .vault) } })
 unfolding step workOf perform
 field-off t m x = record { result = refl; memory = refl; room = refl }

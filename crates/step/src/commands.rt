@@ -22,8 +22,8 @@ ghost use Prim.Native.Nat.{_+_, _*_, _≤_};
 ghost use lib.ListN.{length};
 ghost use Rattle.put.specs.Put.{Put};
 ghost use Rattle.rights.specs.Vault.{viewOf};
-ghost use Rattle.rights.specs.Passwords.{changedOf, changedVerdict};
-ghost use Rattle.rights.specs.Registers.{registerAt, writtenOf, writtenVerdict};
+ghost use Rattle.rights.specs.Passwords.{changeVerdict};
+ghost use Rattle.rights.specs.Registers.{registerAt, registerVerdict};
 ghost use Rattle.record.specs.declared.State.the-variants.{Quiet};
 ghost use Rattle.record.specs.Update.{withVault, withKeys, withState, withFront};
 ghost use Rattle.tag.specs.Rules.{blocksOf, lastEnd};
@@ -90,7 +90,7 @@ fn lock(t: Tag, hold: bool, block: u16, room: &mut [u8]) -> Said
     ensures { λ s. ⌜ Does hold t (lockOf (viewOf (t .vault)) block) (now (room .entry)) (now (room .exit)) s ⌝ }
 {
     let v = t.vault;
-    let next = record::set_vault(t, blocks::lock_block(v, block));
+    let next = record::set_vault(t, blocks::lock_block(v, block == 1));
     let verdict = blocks::lock_verdict(rights::seen(v), block);
     conclude(hold, t, verdict, next, room)
 }
@@ -113,47 +113,34 @@ fn present(t: Tag, hold: bool, number: u8, value: u64, room: &mut [u8]) -> Said
     let p = rights::passwords::present(k, number, value);
     let answer = p.answer;
     let keys = p.keys;
-    settle(
-        hold,
-        rights::passwords::presented_verdict(answer),
-        with_keys(t, keys),
-        room,
-    )
+    settle(hold, answer, with_keys(t, keys), room)
 }
 
 // "Write password B1h"
 fn write_password(t: Tag, hold: bool, number: u8, value: u64, room: &mut [u8]) -> Said
     requires { ⌜ 4 ≤ length (now room) ⌝ }
-    ensures { λ s. ⌜ Does hold t (granted (changedVerdict (changedOf (t .vault .keys .session) number)) (writes (password number value ∷ []))) (now (room .entry)) (now (room .exit)) s ⌝ }
+    ensures { λ s. ⌜ Does hold t (granted (changeVerdict (t .vault .keys .session) number) (writes (password number value ∷ [])))
+        (now (room .entry)) (now (room .exit)) s ⌝ }
 {
     let v = t.vault;
     let k = v.keys;
     let c = rights::passwords::change(k, number, value);
     let answer = c.answer;
     let keys = c.keys;
-    settle(
-        hold,
-        rights::passwords::changed_verdict(answer),
-        with_keys(t, keys),
-        room,
-    )
+    settle(hold, answer, with_keys(t, keys), room)
 }
 
 // "write A1h", on a tag whose last end is e
 fn write_register(t: Tag, hold: bool, e: u8, address: u8, value: u8, room: &mut [u8]) -> Said
     requires { ⌜ 4 ≤ length (now room) ⌝ }
-    ensures { λ s. ⌜ Does hold t (granted (writtenVerdict (writtenOf e (viewOf (t .vault)) address value)) (writes (register address value ∷ []))) (now (room .entry)) (now (room .exit)) s ⌝ }
+    ensures { λ s. ⌜ Does hold t (granted (registerVerdict e (viewOf (t .vault)) address value) (writes (register address value ∷ [])))
+        (now (room .entry)) (now (room .exit)) s ⌝ }
 {
     let v = t.vault;
     let w = rights::registers::write_register(e, v, address, value);
     let answer = w.answer;
     let vault = w.vault;
-    settle(
-        hold,
-        rights::registers::written_verdict(answer),
-        record::set_vault(t, vault),
-        room,
-    )
+    settle(hold, answer, record::set_vault(t, vault), room)
 }
 
 // "Read A0h"
@@ -164,7 +151,7 @@ fn read_register(t: Tag, hold: bool, address: u8, room: &mut [u8]) -> Said
     let v = t.vault;
     let r = rights::registers::read_register(rights::seen(v), address);
     match r {
-        RegisterRead::Unknown => settle(hold, Verdict::Error(0x10), t, room),
+        RegisterRead::Error(code) => settle(hold, Verdict::Error(code), t, room),
         RegisterRead::Value(value) => Said {
             length: put_register(value, room),
             tag: t,
@@ -210,7 +197,9 @@ fn read(
 ) -> Said
     requires { ⌜ length (now memory) ≤ 8192 ⌝ }
     requires { ⌜ 10243 ≤ length (now room) ⌝ }
-    ensures { λ s. ⌜ Gives (concluded hold (perform t (now (memory .entry)) (readOf (viewOf (t .vault)) (limitOf e (blocksOf (now (memory .entry)))) (firstOf e (now (fields .entry))) (moreOf e (now (fields .entry)) + 1) option))) (now (room .entry)) (now (memory .entry)) (now (room .exit)) s ⌝ }
+    ensures { λ s. ⌜ Gives (concluded hold (perform t (now (memory .entry)) (readOf (viewOf (t .vault))
+        (limitOf e (blocksOf (now (memory .entry)))) (firstOf e (now (fields .entry))) (moreOf e (now (fields .entry)) + 1) option)))
+        (now (room .entry)) (now (memory .entry)) (now (room .exit)) s ⌝ }
 {
     let v = t.vault;
     let view = rights::seen(v);
@@ -231,7 +220,8 @@ fn read(
 fn status(t: Tag, e: Entry, hold: bool, fields: &[u8], blocks: usize, room: &mut [u8]) -> Said
     requires { ⌜ blocks ≤ 2048 ⌝ }
     requires { ⌜ 10243 ≤ length (now room) ⌝ }
-    ensures { λ s. ⌜ Does hold t (statusOf (viewOf (t .vault)) (limitOf e blocks) (firstOf e (now (fields .entry))) (moreOf e (now (fields .entry)) + 1)) (now (room .entry)) (now (room .exit)) s ⌝ }
+    ensures { λ s. ⌜ Does hold t (statusOf (viewOf (t .vault)) (limitOf e blocks) (firstOf e (now (fields .entry)))
+        (moreOf e (now (fields .entry)) + 1)) (now (room .entry)) (now (room .exit)) s ⌝ }
 {
     let v = t.vault;
     let view = rights::seen(v);
@@ -252,7 +242,9 @@ fn status(t: Tag, e: Entry, hold: bool, fields: &[u8], blocks: usize, room: &mut
 fn write(t: Tag, e: Entry, hold: bool, fields: &[u8], memory: &mut [u8], room: &mut [u8]) -> Said
     requires { ⌜ headOf e + 4 * (moreOf e (now fields) + 1) ≤ length (now fields) ⌝ }
     requires { ⌜ 4 ≤ length (now room) ⌝ }
-    ensures { λ s. ⌜ Gives (concluded hold (perform t (now (memory .entry)) (writeOf (viewOf (t .vault)) (limitOf e (blocksOf (now (memory .entry)))) (firstOf e (now (fields .entry))) (moreOf e (now (fields .entry))) (dataOf e (now (fields .entry)))))) (now (room .entry)) (now (memory .exit)) (now (room .exit)) s ⌝ }
+    ensures { λ s. ⌜ Gives (concluded hold (perform t (now (memory .entry)) (writeOf (viewOf (t .vault))
+        (limitOf e (blocksOf (now (memory .entry)))) (firstOf e (now (fields .entry))) (moreOf e (now (fields .entry)))
+        (dataOf e (now (fields .entry)))))) (now (room .entry)) (now (memory .exit)) (now (room .exit)) s ⌝ }
 {
     let v = t.vault;
     let limit = table::limit(e, memory.len() / 4);
@@ -321,7 +313,8 @@ pub fn execute(
     requires { ⌜ isMemory (now memory) ≡ true ⌝ }
     requires { ⌜ 10243 ≤ length (now room) ⌝ }
     requires { ⌜ DataThere e (now fields) ⌝ }
-    ensures { λ s. ⌜ Gives (performed t (now (memory .entry)) (requestOf (t .front) (viewOf (t .vault)) (blocksOf (now (memory .entry))) e option (now (fields .entry)))) (now (room .entry)) (now (memory .exit)) (now (room .exit)) s ⌝ }
+    ensures { λ s. ⌜ Gives (performed t (now (memory .entry)) (requestOf (t .front) (viewOf (t .vault)) (blocksOf (now (memory .entry))) e option
+        (now (fields .entry)))) (now (room .entry)) (now (memory .exit)) (now (room .exit)) s ⌝ }
 {
     let hold = holds(e, option);
     let n = put::byte_at(fields, 0);

@@ -22,7 +22,7 @@ ghost use Prim.Native.Nat.{_≤_};
 ghost use lib.ListN.{length};
 ghost use Rattle.rights.specs.Vault.{viewOf};
 ghost use Rattle.put.specs.If.{if_then_else_};
-ghost use Rattle.record.specs.Update.{withFront, powered};
+ghost use Rattle.record.specs.Update.{withFront, passingCleared, sessionless};
 ghost use Rattle.tag.specs.Rules.{blocksOf};
 ghost use Rattle.tag.specs.Step.{dropped, eventOf, frameOf, performed, step};
 ghost use Rattle.tag.specs.Host.{isMemory};
@@ -47,7 +47,8 @@ fn drop_round(t: Tag) -> Tag
 fn take_frame(t: Tag, frame: &[u8], memory: &mut [u8], room: &mut [u8]) -> Said
     requires { ⌜ isMemory (now memory) ≡ true ⌝ }
     requires { ⌜ 10243 ≤ length (now room) ⌝ }
-    ensures { λ s. ⌜ Gives (performed t (now (memory .entry)) (frameOf (t .front) (viewOf (t .vault)) (blocksOf (now (memory .entry))) (now (frame .entry)))) (now (room .entry)) (now (memory .exit)) (now (room .exit)) s ⌝ }
+    ensures { λ s. ⌜ Gives (performed t (now (memory .entry)) (frameOf (t .front) (viewOf (t .vault)) (blocksOf (now (memory .entry)))
+        (now (frame .entry)))) (now (room .entry)) (now (memory .exit)) (now (room .exit)) s ⌝ }
 {
     let f = t.front;
     let heard = frame::hear(f, frame);
@@ -72,7 +73,7 @@ fn take_frame(t: Tag, frame: &[u8], memory: &mut [u8], room: &mut [u8]) -> Said
 
 // "Field off clears passing parts; field on gives Ready; field on when on does nothing."
 fn field_on(t: Tag) -> Tag
-    ensures { λ r. ⌜ r ≡ (if t .front .field then t else powered t true) ⌝ }
+    ensures { λ r. ⌜ r ≡ (if t .front .field then t else record { front = passingCleared (t .front) true; vault = sessionless (t .vault) }) ⌝ }
 {
     let f = t.front;
     if f.field {

@@ -2,22 +2,18 @@
 -- be held.
 -- Assumes nothing.
 use mathlib.Core.Path.{_≡_, refl}
+use mathlib.Core.Bool.{true, false}
 use mathlib.Core.List.{List}
 use Prim.Native.Nat.{ℕ, zero, suc, _+_}
 use lib.ListN.{getD, drop}
-use lib.Dec.{eqb}
-use Rattle.rights.specs.declared.Vault.{Vault}
 use Rattle.rights.specs.Vault.{viewOf}
-use Rattle.rights.specs.Passwords.{presentOf}
-use Rattle.rights.proofs.Cases.{if-one}
 use Rattle.rights.proofs.Possible.{done-possible}
 use Rattle.record.specs.declared.Tag.{Tag}
-use Rattle.record.specs.Update.{withVault}
 use Rattle.tag.specs.declared.Command.{Command}
 use Rattle.tag.specs.Rules.{lastEnd, isCode, heldRule}
 use Rattle.tag.specs.Work.{Answer, silence, verdict, body, Act, applyToTag, Done, perform}
 use Rattle.tag.specs.Blocks.{blockUnits}
-use Rattle.tag.proofs.Codes.{Coded, presented-coded}
+use Rattle.tag.proofs.Codes.{Coded, present-coded}
 use Rattle.tag.proofs.Live.{Clear}
 use Rattle.tag.proofs.Came.{Asked}
 use Rattle.tag.proofs.Came as shape
@@ -47,10 +43,10 @@ act-fine blocks u m c (shape.told d h) = record { tag = c; answer = h }
 act-fine blocks u m c (shape.shows address x h) = record { tag = c; answer = record {} }
 act-fine blocks u m c (shape.listed limit first count status h) = record { tag = c; answer = record {} }
 act-fine blocks u m c (shape.states limit first count h) = record { tag = c; answer = record {} }
-act-fine blocks u m c shape.presented = record { tag = c; answer = presented-coded (presentOf (u .vault .keys) _ _ .answer) }
+act-fine blocks u m c shape.presented = record { tag = c; answer = present-coded (u .vault .keys) _ _ }
 act-fine blocks u m c (shape.blocks-written e first n h) = record { tag = rw (blocks-leave first n _ u) c; answer = refl }
-act-fine blocks u m c (shape.block-locked b) =
-    record { tag = if-one (λ (w : Vault). Clear (lastEnd blocks) (withVault u w)) (eqb b 0) (λ i. c) (λ i. c); answer = refl }
+act-fine blocks u m c (shape.block-locked true) = record { tag = c; answer = refl }
+act-fine blocks u m c (shape.block-locked false) = record { tag = c; answer = refl }
 act-fine blocks u m c shape.afi-written = record { tag = c; answer = refl }
 act-fine blocks u m c shape.afi-locked = record { tag = c; answer = refl }
 act-fine blocks u m c shape.dsfid-written = record { tag = c; answer = refl }

@@ -6,7 +6,7 @@ use mathlib.Core.Path.{_≡_, refl}
 use mathlib.Core.Bool.{Bool, true, false}
 use mathlib.Core.List.{List, [], _∷_}
 use lib.ListN.{getD}
-use lib.Dec.{ltb}
+use lib.Dec.{ltb, eqb}
 use borrow.Author.Tests.{ltb-true}
 use Rattle.put.specs.Number.{numberAt}
 use Rattle.rights.specs.declared.View.{View}
@@ -14,13 +14,12 @@ use Rattle.rights.specs.declared.Verdict.{Verdict}
 use Rattle.rights.specs.declared.Verdict.the-variants.{Success, Error}
 use Rattle.rights.specs.declared.registers.RegisterRead.{RegisterRead}
 use Rattle.rights.specs.declared.registers.RegisterRead.the-variants as read
-use Rattle.rights.specs.declared.registers.Written.{Written}
-use Rattle.rights.specs.declared.registers.Written.the-variants as written
-use Rattle.rights.specs.Passwords.{isOpen, changedOf, changedVerdict}
+use Rattle.rights.specs.Passwords.{isOpen, changeVerdict}
 use Rattle.rights.specs.Blocks.{anyBarred}
-use Rattle.rights.specs.Registers.{registerAt, writtenOf, writtenVerdict}
+use Rattle.rights.specs.Registers.{registerAt, registerVerdict}
 use Rattle.rights.proofs.Cases.{if-one}
-use Rattle.rights.proofs.Hidden.{changed-open}
+use Rattle.rights.proofs.Sessions.{change-open}
+use Rattle.rights.proofs.Addresses.{read-error}
 use Rattle.record.specs.declared.Front.{Front}
 use Rattle.record.specs.declared.State.{State}
 use Rattle.record.specs.declared.State.the-variants.{Ready, Quiet, Selected}
@@ -42,7 +41,7 @@ use Rattle.tag.specs.Inventory.{oneSlot, maskLength, unheard, inventoryA
 use Rattle.tag.specs.Blocks.{granted, readVerdict, statuses, statusVerdict, writeVerdict, blockUnits, lockVerdict}
 use Rattle.tag.specs.Commands.{frontAfter, unless, registerAnswer, actOf, requestOf}
 use Rattle.tag.specs.Step.{Event, fieldOn, fieldOff, endOfFrame, request, dropped, workHeard, frameOf, roundEnds, frameEnds, workOf}
-use Rattle.tag.proofs.Codes.{Coded, read-coded, status-coded, write-coded, lock-coded, unless-coded, changed-coded, written-coded}
+use Rattle.tag.proofs.Codes.{Coded, read-coded, status-coded, write-coded, lock-coded, unless-coded, change-coded, register-coded}
 use Rattle.tag.proofs.Writes.{write-granted}
 use Rattle.tag.proofs.Listing.{limit-within}
 
@@ -74,21 +73,22 @@ hears t f =
 -- ---- a command, on a tag of so many blocks, with such fields
 
 pub data Asked (v : View) (blocks : ℕ) (fields : List ℕ) : Command → Act → Type 0 where
-  quiet : {c : Command} → Asked v blocks fields c (says silence)
   told : {c : Command} (d : Verdict) → Coded d → Asked v blocks fields c (says (verdict d))
-  shows : {c : Command} (address x : ℕ) → registerAt v address ≡ read.Value x → Asked v blocks fields c (says (body (x ∷ [])))
-  listed : {c : Command} (limit first count : ℕ) (status : Bool) → limit ≤ blocks → Asked v blocks fields c (lists limit first count status)
-  states : {c : Command} (limit first count : ℕ) → limit ≤ blocks → Asked v blocks fields c (says (body (statuses v limit first count)))
-  -- of B3h alone
+  -- each of one command alone
+  quiet : Asked v blocks fields StayQuiet (says silence)
+  shows : (address x : ℕ) → registerAt v address ≡ read.Value x → Asked v blocks fields ReadRegister (says (body (x ∷ [])))
+  listed : (limit first count : ℕ) (status : Bool) → limit ≤ blocks → Asked v blocks fields Read (lists limit first count status)
+  states : (limit first count : ℕ) → limit ≤ blocks → Asked v blocks fields Status (says (body (statuses v limit first count)))
   presented : Asked v blocks fields Present (presents (getD fields 0 0) (numberAt 8 fields 1))
+  -- of those that write
   blocks-written : {c : Command} (e : Entry) (first n : ℕ) → anyBarred v first n ≡ false
       → Asked v blocks fields c (writes (blockUnits first n (dataOf e fields)))
-  block-locked : {c : Command} (b : ℕ) → Asked v blocks fields c (writes (blockLock b ∷ []))
+  block-locked : {c : Command} (second : Bool) → Asked v blocks fields c (writes (blockLock second ∷ []))
   afi-written : {c : Command} → Asked v blocks fields c (writes (afi (getD fields 0 0) ∷ []))
   afi-locked : {c : Command} → Asked v blocks fields c (writes (afiLock ∷ []))
   dsfid-written : {c : Command} → Asked v blocks fields c (writes (dsfid (getD fields 0 0) ∷ []))
   dsfid-locked : {c : Command} → Asked v blocks fields c (writes (dsfidLock ∷ []))
-  register-written : {c : Command} (address : ℕ) → writtenOf (lastEnd blocks) v address (getD fields 1 0) ≡ written.Done
+  register-written : {c : Command} (address : ℕ) → registerVerdict (lastEnd blocks) v address (getD fields 1 0) ≡ Success
       → Asked v blocks fields c (writes (register address (getD fields 1 0) ∷ []))
   password-written : {c : Command} (n : ℕ) → isOpen (v .session) n ≡ true → Asked v blocks fields c (writes (password n (numberAt 8 fields 1) ∷ []))
 
@@ -115,15 +115,8 @@ module _ (t : Front) (v : View) (blocks : ℕ) (e : Entry) (option : Bool) (fiel
 
   register-shown : (address : ℕ) (r : RegisterRead) → registerAt v address ≡ r → Is ReadRegister (registerAnswer r)
   unfolding heldRule isCode
-  register-shown address read.Unknown h = told (Error 0x10) refl
+  register-shown address (read.Error c) h = told (Error c) (rw (read-error v address c h))
   register-shown address (read.Value x) h = shows address x h
-
-  register-by : (address : ℕ) (w : Written) → writtenOf (lastEnd blocks) v address (getD fields 1 0) ≡ w
-      → Is WriteRegister (granted (writtenVerdict w) (writes (register address (getD fields 1 0) ∷ [])))
-  register-by address written.Unknown h = told _ (written-coded written.Unknown)
-  register-by address written.NotPermitted h = told _ (written-coded written.NotPermitted)
-  register-by address written.NotAllowed h = told _ (written-coded written.NotAllowed)
-  register-by address written.Done h = register-written address h
 
   pub asked : (c : Command) → Asked v blocks fields c (actOf c t v blocks e option fields)
   unfolding actOf heldRule isCode
@@ -132,7 +125,7 @@ module _ (t : Front) (v : View) (blocks : ℕ) (e : Entry) (option : Bool) (fiel
   asked Write =
       by-verdict (writeVerdict v limit first more) _ (write-coded v limit first more)
       (λ h. blocks-written e first (more + 1) (write-granted v limit first more h .unbarred))
-  asked Lock = by-verdict (lockVerdict v first) _ (lock-coded v first) (λ h. block-locked first)
+  asked Lock = by-verdict (lockVerdict v first) _ (lock-coded v first) (λ h. block-locked (eqb first 1))
   asked Select = told Success refl
   asked ResetToReady = told Success refl
   asked WriteAfi = by-verdict (unless (t .lockafi) 0x12) _ (unless-coded (t .lockafi) 0x12 refl) (λ h. afi-written)
@@ -141,10 +134,12 @@ module _ (t : Front) (v : View) (blocks : ℕ) (e : Entry) (option : Bool) (fiel
   asked LockDsfid = by-verdict (unless (t .lockdsfid) 0x11) _ (unless-coded (t .lockdsfid) 0x11 refl) (λ h. dsfid-locked)
   asked Status = by-verdict (statusVerdict limit first) _ (status-coded limit first) (λ h. states limit first _ (limit-within e blocks))
   asked ReadRegister = register-shown byte (registerAt v byte) refl
-  asked WriteRegister = register-by byte (writtenOf (lastEnd blocks) v byte (getD fields 1 0)) refl
+  asked WriteRegister =
+      by-verdict (registerVerdict (lastEnd blocks) v byte (getD fields 1 0)) _ (register-coded (lastEnd blocks) v byte (getD fields 1 0))
+      (λ h. register-written byte h)
   asked WritePassword =
-      by-verdict (changedVerdict (changedOf (v .session) byte)) _ (changed-coded (changedOf (v .session) byte))
-      (λ h. password-written byte (changed-open (v .session) byte h))
+      by-verdict (changeVerdict (v .session) byte) _ (change-coded (v .session) byte)
+      (λ h. password-written byte (change-open (v .session) byte h .1))
   asked Present = presented
   asked Unlisted = told (Error 0x02) refl
 
@@ -193,7 +188,7 @@ pub data Came (t : Front) (v : View) (blocks : ℕ) : Event → Work → Type 0 
   inside : {e : Event} {w : Work} → t .field ≡ true → InField t v blocks e w → Came t v blocks e w
 
 module _ (t : Front) (v : View) (blocks : ℕ) where
-  frame-came : (f : List ℕ) {x : Heard} → Hears (dropped t) f x → InField t v blocks (request f) (workHeard x (dropped t) v blocks f)
+  pub frame-came : (f : List ℕ) {x : Heard} → Hears (dropped t) f x → InField t v blocks (request f) (workHeard x (dropped t) v blocks f)
   unfolding inventoryOf
   frame-came f silent = ignored
   frame-came f another = deselected
@@ -219,3 +214,9 @@ module _ (t : Front) (v : View) (blocks : ℕ) where
   came fieldOff = cleared false
   came endOfFrame = if-one (Came t v blocks endOfFrame) (t .field) (λ on. inside on (end-came (t .held) refl)) (λ off. nothing)
   came (request f) = if-one (Came t v blocks (request f)) (t .field) (λ on. inside on (frame-came f (hears (dropped t) f))) (λ off. nothing)
+
+  -- and the work of a frame that is heard as a request, in the field
+  pub request-work : (f : List ℕ) {e : Entry} {option : Bool} {start : ℕ} → t .field ≡ true → heardOf (dropped t) f ≡ heard.Request e option start
+      → workOf t v blocks (request f) ≡ requestOf (dropped t) v blocks e option (fieldsFrom start f)
+  unfolding workOf frameOf
+  request-work f on h = rw (h, on)

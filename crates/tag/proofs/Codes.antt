@@ -4,18 +4,15 @@
 use mathlib.Core.Path.{_≡_, refl}
 use mathlib.Core.Bool.{Bool, true, false, not}
 use Prim.Native.Nat.{ℕ, _+_}
-use lib.Dec.{leb, ltb}
+use lib.Dec.{leb, ltb, eqb}
 use Rattle.rights.specs.declared.View.{View}
 use Rattle.rights.specs.declared.Verdict.{Verdict}
-use Rattle.rights.specs.declared.passwords.Presented.{Presented}
-use Rattle.rights.specs.declared.passwords.Presented.the-variants as presented
-use Rattle.rights.specs.declared.passwords.Changed.{Changed}
-use Rattle.rights.specs.declared.passwords.Changed.the-variants as changed
-use Rattle.rights.specs.declared.registers.Written.{Written}
-use Rattle.rights.specs.declared.registers.Written.the-variants as written
-use Rattle.rights.specs.Passwords.{presentedVerdict, changedVerdict}
+use Rattle.rights.specs.declared.Keys.{Keys}
+use Rattle.rights.specs.declared.Session.{Session}
+use Rattle.rights.specs.declared.passwords.Presentation.{Presentation}
+use Rattle.rights.specs.Passwords.{isOpen, passwordOf, presentOf, changeVerdict}
 use Rattle.rights.specs.Blocks.{readableAt, writableAt, lockedAt, crossesAt, anyBarred}
-use Rattle.rights.specs.Registers.{writtenVerdict}
+use Rattle.rights.specs.Registers.{isRegister, allows, permits, registerVerdict}
 use Rattle.rights.proofs.Cases.{if-one}
 use Rattle.record.specs.declared.Held.the-variants as held
 use Rattle.tag.specs.Rules.{isCode, heldRule}
@@ -56,21 +53,22 @@ unfolding heldRule
 unless-coded true c h = h
 unless-coded false c h = refl
 
-pub presented-coded : (p : Presented) → Coded (presentedVerdict p)
-unfolding heldRule isCode
-presented-coded presented.NumberOver = refl
-presented-coded presented.Wrong = refl
-presented-coded presented.Right = refl
+pub present-coded : (k : Keys) (n w : ℕ) → Coded (presentOf k n w .answer)
+unfolding heldRule isCode presentOf
+present-coded k n w =
+    let P : Presentation → Type 0 = λ p. Coded (p .answer) in
+    if-one P (ltb 3 n) (λ e. refl) (λ e.
+    if-one P (not (eqb (passwordOf k n) w)) (λ e. refl) (λ e. refl))
 
-pub changed-coded : (c : Changed) → Coded (changedVerdict c)
-unfolding heldRule isCode
-changed-coded changed.NumberOver = refl
-changed-coded changed.NotOpen = refl
-changed-coded changed.Replaced = refl
+pub change-coded : (s : Session) (n : ℕ) → Coded (changeVerdict s n)
+unfolding heldRule isCode changeVerdict
+change-coded s n =
+    if-one Coded (ltb 3 n) (λ e. refl) (λ e.
+    if-one Coded (not (isOpen s n)) (λ e. refl) (λ e. refl))
 
-pub written-coded : (w : Written) → Coded (writtenVerdict w)
-unfolding heldRule isCode
-written-coded written.Unknown = refl
-written-coded written.NotPermitted = refl
-written-coded written.NotAllowed = refl
-written-coded written.Done = refl
+pub register-coded : (e : ℕ) (v : View) (address x : ℕ) → Coded (registerVerdict e v address x)
+unfolding heldRule isCode registerVerdict
+register-coded e v address x =
+    if-one Coded (not (isRegister address)) (λ h. refl) (λ h.
+    if-one Coded (not (permits v)) (λ h. refl) (λ h.
+    if-one Coded (not (allows e (v .areas) address x)) (λ h. refl) (λ h. refl)))

@@ -17,9 +17,8 @@ use Rattle.rights.specs.Blocks.{OnlyThis}
 use Rattle.rights.proofs.Cases.{or-true, or-one, both, join}
 use Rattle.rights.proofs.Hidden.{hidden-by-one}
 use Rattle.record.specs.declared.Tag.{Tag}
-use Rattle.record.specs.declared.Refusal.{Refusal}
 use Rattle.tag.specs.Step.{Event, step}
-use Rattle.tag.specs.Host.{numberOf, eventGiven}
+use Rattle.tag.specs.Host.{eventGiven}
 use Rattle.tag.specs.Demand3.{Except, Closed, Claim, Opens, Opened, now, later, Unaltered, Demanded, Demand3, Call, OpenedIn, now-in, later-in, DemandedIn, Demand3OfCalls}
 use Rattle.tag.specs.Secrecy.{hidden, Alike, guards, Shut, presented, opens, unopened, Kept, only, unrefused, unopenedCalls}
 use Rattle.tag.proofs.Presented.{presented-means}
@@ -143,28 +142,28 @@ module _ (p : ℕ) (some-p : p ≢ 0) where
   -- ---- and of calls
 
   module _ (t : Tag) (m : List ℕ) (c : Call) where
-    abbrev refusal : Refusal
-    refusal = eventGiven t (c .event) m (c .room) .result .refusal
+    abbrev number : ℕ
+    number = eventGiven t (c .event) m (c .room) .number
 
     abbrev calling : Bool
-    calling = opening t m (c .event) (unrefused refusal (presented t m (c .event)))
+    calling = opening t m (c .event) (unrefused number (presented t m (c .event)))
 
     opens-in : {cs : List Call} → calling ≡ true → OpenedIn p t m (c ∷ cs)
-    opens-in {cs} h = go (eqb (numberOf refusal) 0) refl h
+    opens-in {cs} h = go (eqb number 0) refl h
       where
-        go : (b : Bool) → eqb (numberOf refusal) 0 ≡ b → opening t m (c .event) (if b then presented t m (c .event) else none) ≡ true → OpenedIn p t m (c ∷ cs)
+        go : (b : Bool) → eqb number 0 ≡ b → opening t m (c .event) (if b then presented t m (c .event) else none) ≡ true → OpenedIn p t m (c ∷ cs)
         go true e h = now-in (eqb-true _ _ e) (opens-is t m (c .event) (presented t m (c .event)) refl h)
         go false e h = let z : _≡_ {A = ℕ} 0 1 = cc in absurd (omega arith)
 
-    in-opens : numberOf refusal ≡ 0 → Opens p t (c .event) → calling ≡ true
-    in-opens e x = rw (eq-eqb (numberOf refusal) 0 e) (is-opens t m (c .event) x)
+    in-opens : number ≡ 0 → Opens p t (c .event) → calling ≡ true
+    in-opens e x = rw (eq-eqb number 0 e) (is-opens t m (c .event) x)
 
   calls-unopened-is : (t : Tag) (m : List ℕ) (cs : List Call) → (OpenedIn p t m cs → ⊥) → unopenedCalls (only p) t m cs ≡ true
   unfolding unopenedCalls
   calls-unopened-is t m [] never = refl
   calls-unopened-is t m (c ∷ cs) never =
       let g = eventGiven t (c .event) m (c .room) in
-      neither-is (calling t m c) (λ h. never (opens-in t m c h)) (calls-unopened-is (g .result .tag) (g .memory) cs (λ o. never (later-in o)))
+      neither-is (calling t m c) (λ h. never (opens-in t m c h)) (calls-unopened-is (g .tag) (g .memory) cs (λ o. never (later-in o)))
 
   pub is-calls-unopened : {t : Tag} {m : List ℕ} {cs : List Call} → unopenedCalls (only p) t m cs ≡ true → OpenedIn p t m cs → ⊥
   unfolding unopenedCalls

@@ -14,7 +14,6 @@ use Rattle.rights.specs.declared.Areas.{Areas}
 use Rattle.rights.specs.declared.View.{View}
 use Rattle.rights.specs.Passwords.{isOpen}
 use Rattle.rights.specs.Blocks.{anyBarred, hiddenBy}
-use Rattle.rights.specs.Registers.{writtenVerdict}
 use Rattle.rights.proofs.Cases.{or-true, join}
 use Rattle.rights.proofs.Hidden.{other-false, writable-unhidden, none-barred, written-open}
 use Rattle.record.specs.declared.Front.{Front}
@@ -33,7 +32,7 @@ harmless chosen a (block b bytes) = not (hiddenBy chosen a b) && leb (length byt
 harmless chosen a (register address x) = false
 harmless chosen a (afi x) = true
 harmless chosen a (dsfid x) = true
-harmless chosen a (blockLock b) = true
+harmless chosen a (blockLock second) = true
 harmless chosen a afiLock = true
 harmless chosen a dsfidLock = true
 harmless chosen a (password n w) = not (guards chosen n)
@@ -85,12 +84,12 @@ module _ (chosen : ℕ → Bool) (v : View) (shut : Shut chosen (v .session)) wh
   act-harmless (shape.states limit first count h) = refl
   act-harmless shape.presented = refl
   act-harmless (shape.blocks-written e first n h) = blocks-harmless first n _ h
-  act-harmless (shape.block-locked b) = refl
+  act-harmless (shape.block-locked second) = refl
   act-harmless shape.afi-written = refl
   act-harmless shape.afi-locked = refl
   act-harmless shape.dsfid-written = refl
   act-harmless shape.dsfid-locked = refl
-  act-harmless (shape.register-written address h) = register-unwritten (written-open _ v address _ (ap writtenVerdict h))
+  act-harmless (shape.register-written address h) = register-unwritten (written-open _ v address _ h)
   act-harmless {fields = fields} (shape.password-written n h) = password-unguarded n (numberAt 8 fields 1) h
 
   field-harmless : {t : Front} {blocks : ℕ} {e : Event} {w : Work} → InField t v blocks e w → HarmlessWork w

@@ -11,10 +11,9 @@ use borrow.Author.Tests.{eqb-true, eq-eqb}
 use Rattle.put.specs.If.{if_then_else_}
 use Rattle.rights.proofs.Cases.{or-true, join, or-one}
 use Rattle.record.specs.declared.Tag.{Tag}
-use Rattle.record.specs.declared.Refusal.the-variants as refusal
 use Rattle.tag.specs.Rules.{blocksOf, sound}
 use Rattle.tag.specs.Image.{tagIn, headerRule, imageOf}
-use Rattle.tag.specs.Host.{isMemory, fitsImage, isImage, outcome, loadRefused, loadGiven, LoadGiven, saveGiven}
+use Rattle.tag.specs.Host.{isMemory, fitsImage, isImage, loadRefused, loadGiven, LoadGiven, saveGiven}
 use Rattle.tag.proofs.Sizes.{fitting}
 use Rattle.tag.proofs.Off.{sound-rules, nothing-passing}
 use Rattle.tag.proofs.Headers.{header-rules, sound-in, image-again, field-in, Lasting, tag-again, image-length, memory-again, header-right}
@@ -44,39 +43,43 @@ sized m i h =
 -- ---- calls that refuse nothing
 
 abbrev loaded : List ℕ → LoadGiven
-loaded i = record { result = outcome refusal.None 0 (tagIn i); memory = drop 64 i }
+loaded i = record { number = 0; length = 0; tag = tagIn i; memory = drop 64 i }
 
 -- an image that loading accepts
 record Accepted (m i : List ℕ) : Type 0 where
   sizes : Sized m i
   header : headerRule (blocksOf m) i ≡ true
 
-accepted : (t : Tag) (i m : List ℕ) → loadGiven t i m .result .refusal ≡ refusal.None → Accepted m i
+accepted : (t : Tag) (i m : List ℕ) → loadGiven t i m .number ≡ 0 → Accepted m i
 unfolding loadGiven
 accepted t i m h = go (isImage i) (fitsImage m i) (headerRule (blocksOf m) i) refl refl h
   where
-    go : (a b c : Bool) → fitsImage m i ≡ b → headerRule (blocksOf m) i ≡ c → (if not a then loadRefused refusal.Image t m else if not b then loadRefused refusal.Memory t m else if not c then loadRefused refusal.Header t m else loaded i) .result .refusal ≡ refusal.None → Accepted m i
-    go false b c p q h = let z : _≡_ {A = ℕ} 0 1 = cc in absurd (omega arith)
-    go true false c p q h = let z : _≡_ {A = ℕ} 0 1 = cc in absurd (omega arith)
-    go true true false p q h = let z : _≡_ {A = ℕ} 0 1 = cc in absurd (omega arith)
+    go : (a b c : Bool) → fitsImage m i ≡ b → headerRule (blocksOf m) i ≡ c
+        → (if not a then loadRefused 4 t m else if not b then loadRefused 1 t m else if not c then loadRefused 5 t m else loaded i) .number ≡ 0 → Accepted m i
+    go false b c p q h = absurd (omega arith)
+    go true false c p q h = absurd (omega arith)
+    go true true false p q h = absurd (omega arith)
     go true true true p q h = record { sizes = sized m i p; header = q }
 
 loading : (t : Tag) {i m : List ℕ} → Accepted m i → loadGiven t i m ≡ loaded i
 unfolding loadGiven
 loading t a = rw (is-image (a .sizes), fits (a .sizes), a .header)
 
-saving : (t : Tag) {m j : List ℕ} → Sized m j → sound (blocksOf m) t ≡ true → saveGiven t m j ≡ record { result = outcome refusal.None (64 + length m) t; image = imageOf t m }
+saving : (t : Tag) {m j : List ℕ} → Sized m j → sound (blocksOf m) t ≡ true
+    → saveGiven t m j ≡ record { number = 0; length = 64 + length m; tag = t; image = imageOf t m }
 unfolding saveGiven
 saving t s h = rw (is-image s, fits s, h)
 
 -- ---- the theorems
 
 -- what is loaded is sound, with the field off
-pub loaded-sound : (t : Tag) (i m : List ℕ) → loadGiven t i m .result .refusal ≡ refusal.None → (sound (blocksOf m) (loadGiven t i m .result .tag) ≡ true) × (loadGiven t i m .result .tag .front .field ≡ false)
+pub loaded-sound : (t : Tag) (i m : List ℕ) → loadGiven t i m .number ≡ 0
+    → (sound (blocksOf m) (loadGiven t i m .tag) ≡ true) × (loadGiven t i m .tag .front .field ≡ false)
 loaded-sound t i m h = let a = accepted t i m h in rw (loading t a) (sound-in (header-rules (a .header)), field-in i)
 
 -- an image that is loaded and saved again comes out whole, whatever stood in the record, the memory and the image's room
-pub load-save : (t : Tag) (i m j : List ℕ) → ((n : ℕ) → getD i n 0 < 256) → length j ≡ length i → loadGiven t i m .result .refusal ≡ refusal.None → saveGiven (loadGiven t i m .result .tag) (loadGiven t i m .memory) j ≡ record { result = outcome refusal.None (length i) (loadGiven t i m .result .tag); image = i }
+pub load-save : (t : Tag) (i m j : List ℕ) → ((n : ℕ) → getD i n 0 < 256) → length j ≡ length i → loadGiven t i m .number ≡ 0
+    → saveGiven (loadGiven t i m .tag) (loadGiven t i m .memory) j ≡ record { number = 0; length = length i; tag = loadGiven t i m .tag; image = i }
 load-save t i m j b e h =
     let a = accepted t i m h in
     let rules = header-rules (a .header) in
@@ -86,7 +89,10 @@ load-save t i m j b e h =
     rw (loading t a, saving (tagIn i) s (rw n (sound-in rules)), image-again rules b (omega arith), n, ← l)
 
 -- "a round trip from a record is exact when the field is off": it is saved, and what was saved loads as the same record and memory
-pub save-load : (t : Tag) (m j : List ℕ) → Lasting t → t .front .field ≡ false → sound (blocksOf m) t ≡ true → isMemory m ≡ true → length j ≡ 64 + length m → (t₀ : Tag) (m₀ : List ℕ) → length m₀ ≡ length m → (saveGiven t m j .result ≡ outcome refusal.None (64 + length m) t) × (loadGiven t₀ (saveGiven t m j .image) m₀ ≡ record { result = outcome refusal.None 0 t; memory = m })
+pub save-load : (t : Tag) (m j : List ℕ) → Lasting t → t .front .field ≡ false → sound (blocksOf m) t ≡ true → isMemory m ≡ true → length j ≡ 64 + length m
+    → (t₀ : Tag) (m₀ : List ℕ) → length m₀ ≡ length m
+    → (saveGiven t m j ≡ record { number = 0; length = 64 + length m; tag = t; image = imageOf t m })
+    × (loadGiven t₀ (saveGiven t m j .image) m₀ ≡ record { number = 0; length = 0; tag = t; memory = m })
 save-load t m j l e h w k t₀ m₀ n =
     let rules = sound-rules h in
     let x = image-length t m in

@@ -1,34 +1,43 @@
 -- "The longest answer is 2,048 blocks with status: 1 + 2,048 × 5 + 2 = 10,243." And whatever is not silence ends in the CRC of the rest.
 -- Assumes nothing.
-use Prim.Native.Nat.{ℕ, _+_, _*_, _≤_}
+use Prim.Native.Nat.{ℕ, _+_, _*_, _≤_, _<_}
 use mathlib.Core.Path.{_≡_, refl}
 use mathlib.Core.Logic.{_⊎_, inl, inr}
 use mathlib.Core.Bool.{Bool, true, false}
 use mathlib.Core.List.{List, [], _∷_, _++_}
 use native.Mathlib.Omega.{arith}
-use lib.ListN.{length, length-append}
+use lib.ListN.{length, replicate, length-append}
 use lib.Dec.{eqb}
+use borrow.Author.Tests.{le-leb}
+use Rattle.put.specs.Number.{numberAt, bytesOf}
 use Rattle.put.proofs.Numbers.{length-bytes}
-use Rattle.crc.specs.Crc.{crcBytes}
+use Rattle.crc.specs.Crc.{crcBit, crcBits, crcByte, crcFrom, crcOf, crcBytes}
 use Rattle.crc.proofs.Bytes.{crc-length}
 use Rattle.rights.specs.declared.View.{View}
 use Rattle.rights.specs.declared.Verdict.{Verdict}
 use Rattle.rights.specs.declared.Verdict.the-variants.{Success, Error}
 use Rattle.rights.specs.Vault.{viewOf}
-use Rattle.rights.specs.Passwords.{presentOf, presentedVerdict}
+use Rattle.rights.specs.Passwords.{presentOf}
+use Rattle.rights.specs.Blocks.{areaOf, mayRead, readableAt}
+use Rattle.rights.specs.Registers.{possible}
 use Rattle.rights.proofs.Cases.{if-one}
 use Rattle.record.specs.declared.Front.{Front}
 use Rattle.record.specs.declared.Tag.{Tag}
 use Rattle.record.specs.Update.{withFront}
 use Rattle.tag.specs.declared.Command.{Command}
-use Rattle.tag.specs.Rules.{blocksOf}
-use Rattle.tag.specs.Work.{Answer, silence, verdict, body, Act, says, lists, presents, writes, closes, Work, perform}
+use Rattle.tag.specs.Rules.{blocksOf, offRule, roundRule, heldRule, togetherRule, sound}
+use Rattle.tag.specs.Table.{entryOf, firstOf, moreOf, limitOf, lengthOf}
+use Rattle.tag.specs.Frame.{check2, check3, check4, custom, check5, afterCode, fieldsAt, check6, check7, check8, check9, check10, heardOf}
+use Rattle.tag.specs.Work.{Answer, silence, verdict, body, Act, says, lists, presents, writes, closes, Work, listing, perform}
 use Rattle.tag.specs.Inventory.{slotOf, inSlot}
-use Rattle.tag.specs.Commands.{requestOf}
-use Rattle.tag.specs.Step.{Event, dropped, workOf, sealed, lineOf, settled, step}
+use Rattle.tag.specs.Blocks.{readVerdict}
+use Rattle.tag.specs.Commands.{actOf, requestOf}
+use Rattle.tag.specs.Step.{Event, request, dropped, frameOf, workOf, sealed, lineOf, settled, step}
+use Rattle.tag.specs.Image.{factory}
 use Rattle.tag.specs.Host.{isMemory, leastRoom}
+use Rattle.tag.specs.Cases.{bytes, ours, withField}
 use Rattle.tag.proofs.Sizes.{memory-bounds}
-use Rattle.tag.proofs.Listing.{listing-within, statuses-within}
+use Rattle.tag.proofs.Listing.{listing-within, listing-whole, statuses-within}
 use Rattle.tag.proofs.Came.{Asked, InField, Came, came}
 use Rattle.tag.proofs.Came as shape
 
@@ -72,7 +81,7 @@ perform-most : (t : Tag) (m : List ℕ) (a : Act) → length (carried (perform t
 unfolding perform
 perform-most t m (says a) = omega arith
 perform-most t m (lists limit first count status) = omega (arith, listing-within (viewOf (t .vault)) m limit first count status)
-perform-most t m (presents n w) = verdict-most (presentedVerdict (presentOf (t .vault .keys) n w .answer))
+perform-most t m (presents n w) = verdict-most (presentOf (t .vault .keys) n w .answer)
 perform-most t m (writes us) = omega arith
 perform-most t m closes = omega arith
 
@@ -88,7 +97,7 @@ act-fits h (shape.listed limit first count status k) = omega arith
 act-fits {v} h (shape.states limit first count k) = omega (arith, statuses-within v limit first count)
 act-fits h shape.presented = omega arith
 act-fits h (shape.blocks-written e first n k) = omega arith
-act-fits h (shape.block-locked b) = omega arith
+act-fits h (shape.block-locked second) = omega arith
 act-fits h shape.afi-written = omega arith
 act-fits h shape.afi-locked = omega arith
 act-fits h shape.dsfid-written = omega arith
@@ -129,6 +138,50 @@ answer-most t m e h =
     let d = perform (withFront t (w .front)) m (w .act) in
     let fits : Fits (w .act) = came-fits (omega (arith, memory-bounds (length m) h .1)) (came (t .front) (viewOf (t .vault)) (blocksOf m) e) in
     omega (arith, fits, perform-most (withFront t (w .front)) m (w .act), settled-most (w .hold) (d .answer) (d .tag) (d .memory))
+
+-- ---- and it is reached
+
+-- a record that keeps the record rules, a memory of 8,192 bytes and a request, with the longest answer: "2,048 blocks with status"
+pub record Longest : Type 0 where
+  pub tag : Tag
+  pub memory : List ℕ
+  pub frame : List ℕ
+  pub kept : sound (blocksOf memory) tag ≡ true
+  pub size : length memory ≡ 8192
+  pub shown : step tag memory (request frame) .answer ≡ sealed (0x00 ∷ listing (viewOf (tag .vault)) memory 2048 0 2048 true)
+  pub reached : length (step tag memory (request frame) .answer) ≡ 10243
+
+-- the 64 Kbit factory tag in the field
+whole : Tag
+whole = withField (factory 255 ours)
+
+-- "Area 1 is always readable", and takes all of its blocks
+whole-readable : (b : ℕ) → b < 2048 → readableAt (viewOf (whole .vault)) b ≡ true
+unfolding whole withField factory readableAt areaOf mayRead
+whole-readable b h = rw (le-leb b 2047 (omega arith))
+
+-- 33h with Option_flag: first block 0, count less one 2,047
+asking : List ℕ
+asking = sealed (bytes 6 0x42330000FF07)
+
+blocks-shown : step whole (replicate 8192 0) (request asking) .answer ≡ sealed (0x00 ∷ listing (viewOf (whole .vault)) (replicate 8192 0) 2048 0 2048 true)
+unfolding whole asking withField ours bytes numberAt bytesOf crcBit crcBits crcByte crcFrom crcOf crcBytes areaOf mayRead readableAt entryOf firstOf moreOf limitOf lengthOf check2 check3 check4 custom check5 afterCode fieldsAt check6 check7 check8 check9 check10 heardOf perform readVerdict actOf requestOf frameOf workOf step factory
+blocks-shown = refl
+
+-- the theorem: an answer of 10,243 bytes is given
+pub longest : Longest
+unfolding whole withField factory sound possible offRule roundRule heldRule togetherRule
+longest = record {
+  tag = whole;
+  memory = replicate 8192 0;
+  frame = asking;
+  kept = refl;
+  size = refl;
+  shown = blocks-shown;
+  reached =
+      let all = listing-whole (viewOf (whole .vault)) (replicate 8192 0) 2048 0 2048 whole-readable (omega arith) (omega arith) in
+      rw blocks-shown (omega (arith, sealed-length (0x00 ∷ listing (viewOf (whole .vault)) (replicate 8192 0) 2048 0 2048 true)));
+}
 
 -- ---- the CRC
 

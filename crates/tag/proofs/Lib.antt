@@ -3,9 +3,11 @@ pub mod OnlyOne
 pub mod Sizes
 pub mod Codes
 pub mod Live
+pub mod Rows
 pub mod Came
 pub mod Acts
 pub mod Sound
+pub mod Held
 pub mod Alters
 pub mod Calls
 pub mod Listing
@@ -20,6 +22,7 @@ pub mod OnlyFrames
 pub mod Images
 pub mod Alike
 pub mod Presented
+pub mod Session
 pub mod Harmless
 pub mod Unchanged
 pub mod Unlearned

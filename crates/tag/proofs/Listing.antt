@@ -63,6 +63,15 @@ listing-within v m limit b (suc n) status =
     (λ e. simp length-append (omega (arith, ltb-true b limit (both _ _ e .0), shown-most v m b status, listing-within v m limit (b + 1) n status)))
     (λ e. omega arith)
 
+-- and just five for each with its status, where all are readable and lie in the memory
+pub listing-whole : (v : View) (m : List ℕ) (limit b n : ℕ) → ((k : ℕ) → k < limit → readableAt v k ≡ true) → 4 * limit ≤ length m → b + n ≤ limit
+    → length (listing v m limit b n true) ≡ 5 * n
+unfolding listing
+listing-whole v m limit b zero readable fits h = refl
+listing-whole v m limit b (suc n) readable fits h =
+    let rest = listing-whole v m limit (b + 1) n readable fits (omega arith) in
+    rw (lt-ltb b limit (omega arith), readable b (omega arith)) (simp length-append (omega (arith, block-length v m b true (omega arith))))
+
 -- ---- status bytes alone
 
 module _ (v : View) (limit b : ℕ) where

@@ -16,7 +16,7 @@ use Rattle.record.specs.declared.Round.{Round}
 use Rattle.record.specs.declared.Round.the-variants as round
 use Rattle.record.specs.declared.Held.{Held}
 use Rattle.record.specs.declared.Held.the-variants as held
-use Rattle.record.specs.Update.{powered}
+use Rattle.record.specs.Update.{passingCleared, sessionless}
 use Rattle.record.specs.Tests.{isReady, noRound, noneHeld}
 use Rattle.tag.specs.Rules.{lastEnd, offRule, roundRule, heldRule, togetherRule, sound}
 
@@ -79,5 +79,5 @@ nothing-passing f s h e =
     }
 
 -- such a record is what it would be if the field went off
-pub is-off : (t : Tag) → Off (t .front) (t .vault .keys .session) → powered t false ≡ t
+pub is-off : (t : Tag) → Off (t .front) (t .vault .keys .session) → record { front = passingCleared (t .front) false; vault = sessionless (t .vault) } ≡ t
 is-off t o = rw (← o .field, ← o .state, ← o .session, ← o .round, ← o .held)

@@ -2,23 +2,20 @@
 -- Assumes nothing.
 use Prim.Native.Nat.{ℕ}
 use mathlib.Core.Path.{_≡_, refl}
+use mathlib.Core.Logic.{_≢_}
 use mathlib.Core.Bool.{Bool, true, false, not, _&&_, _||_}
 use mathlib.Core.List.{List}
 use mathlib.Core.Option.{none, some}
 use native.Mathlib.Omega.{arith}
 use lib.ListN.{getD}
-use lib.Dec.{eqb}
-use borrow.Author.Tests.{eqb-true}
-use Rattle.put.specs.If.{if_then_else_}
+use borrow.Author.Tests.{ne-eqb}
 use Rattle.put.specs.Number.{numberAt}
 use Rattle.rights.specs.declared.View.{View}
 use Rattle.rights.specs.Vault.{viewOf}
-use Rattle.rights.proofs.Cases.{if-one}
 use Rattle.record.specs.declared.Front.{Front}
 use Rattle.record.specs.declared.Tag.{Tag}
 use Rattle.tag.specs.declared.Command.{Command}
 use Rattle.tag.specs.declared.Command.the-variants.{Present}
-use Rattle.tag.specs.declared.Entry.{Entry}
 use Rattle.tag.specs.declared.Heard.the-variants as heard
 use Rattle.tag.specs.Rules.{blocksOf}
 use Rattle.tag.specs.Table.{entryOf}
@@ -28,27 +25,11 @@ use Rattle.tag.specs.Commands.{actOf, requestOf}
 use Rattle.tag.specs.Step.{Event, dropped, frameOf, workOf}
 use Rattle.tag.specs.Demand3.{Claim, PresentedBy, in-frame}
 use Rattle.tag.specs.Secrecy.{claimOf, presented}
+use Rattle.tag.proofs.Rows.{present-code}
 use Rattle.tag.proofs.Came.{Asked, InField, Came, came}
 use Rattle.tag.proofs.Came as shape
 
 -- ---- whatever is presented came so
-
--- only B3h is the command that presents
-module _ (code : ℕ) where
-  row : (P : Entry → Type 0) (k : ℕ) {x y : Entry} → (code ≡ k → P x) → P y → P (if eqb code k then x else y)
-  row P k here later = if-one P (eqb code k) (λ e. here (eqb-true code k e)) (λ e. later)
-
-  abbrev Is : Entry → Type 0
-  Is x = x .command ≡ Present → code ≡ 0xB3
-
-  present-code : Is (entryOf code)
-  unfolding entryOf
-  present-code =
-      row Is 0x02 (λ e p. cc) (row Is 0x20 (λ e p. cc) (row Is 0x21 (λ e p. cc) (row Is 0x22 (λ e p. cc) (row Is 0x23 (λ e p. cc) (
-      row Is 0x24 (λ e p. cc) (row Is 0x25 (λ e p. cc) (row Is 0x26 (λ e p. cc) (row Is 0x27 (λ e p. cc) (row Is 0x28 (λ e p. cc) (
-      row Is 0x29 (λ e p. cc) (row Is 0x2A (λ e p. cc) (row Is 0x2C (λ e p. cc) (row Is 0x30 (λ e p. cc) (row Is 0x31 (λ e p. cc) (
-      row Is 0x32 (λ e p. cc) (row Is 0x33 (λ e p. cc) (row Is 0x34 (λ e p. cc) (row Is 0x3C (λ e p. cc) (row Is 0xA0 (λ e p. cc) (
-      row Is 0xA1 (λ e p. cc) (row Is 0xB1 (λ e p. cc) (row Is 0xB3 (λ e p. e) (λ p. cc)))))))))))))))))))))))
 
 -- what presents nothing presents no claim
 unsaid : {P : Type 0} {c : Claim} → none ≡ some c → P
@@ -67,7 +48,7 @@ act-presents (shape.listed limit first count status e) h = unsaid h
 act-presents (shape.states limit first count e) h = unsaid h
 act-presents shape.presented h = (refl, cc)
 act-presents (shape.blocks-written n first more e) h = unsaid h
-act-presents (shape.block-locked b) h = unsaid h
+act-presents (shape.block-locked second) h = unsaid h
 act-presents shape.afi-written h = unsaid h
 act-presents shape.afi-locked h = unsaid h
 act-presents shape.dsfid-written h = unsaid h
@@ -115,24 +96,25 @@ came-presents t c (shape.inside on i) h = field-presents t c on i h
 -- ---- and each such frame is presented
 
 -- check 4 keeps Inventory_flag from a frame of another code
-no-inventory : (f : List ℕ) → codeOf f ≡ 0xB3 → check4 f ≡ false → flagBit 3 f ≡ false
+no-inventory : (f : List ℕ) → codeOf f ≢ 0x01 → check4 f ≡ false → flagBit 3 f ≡ false
 unfolding check4
-no-inventory f code four = go (flagBit 3 f) (rw code at four)
+no-inventory f other four = go (flagBit 3 f) (rw (ne-eqb (codeOf f) 0x01 other) at four)
   where
-    go : (b : Bool) → ((b && not (eqb 0xB3 0x01)) || (not b && eqb 0xB3 0x01)) ≡ false → b ≡ false
+    go : (b : Bool) → ((b && true) || (not b && false)) ≡ false → b ≡ false
     go true h = let z : _≡_ {A = ℕ} 0 1 = cc in absurd (omega arith)
     go false h = refl
 
--- a frame that passes all checks is heard as a request
-passes-heard : (t : Front) (f : List ℕ) → Passes t f → flagBit 3 f ≡ false → heardOf t f ≡ heard.Request (entryOf (codeOf f)) (optionFlag f) (fieldsAt f)
+-- a frame that passes all checks, and is not of 01h, is heard as a request
+pub passes-heard : (t : Front) (f : List ℕ) → codeOf f ≢ 0x01 → Passes t f
+    → heardOf (dropped t) f ≡ heard.Request (entryOf (codeOf f)) (optionFlag f) (fieldsAt f)
 unfolding heardOf
-passes-heard t f p i = rw (p .two, p .three, p .four, i, p .five, p .six, p .seven, p .eight, p .nine, p .ten)
+passes-heard t f other p =
+    let q = passes-same t (dropped t) f refl refl p in
+    rw (q .two, q .three, q .four, no-inventory f other (q .four), q .five, q .six, q .seven, q .eight, q .nine, q .ten)
 
 frame-presents : (t : Tag) (m : List ℕ) {e : Event} {c : Claim} → PresentedBy t e c → presented t m e ≡ some c
 unfolding presented workOf frameOf requestOf actOf entryOf
-frame-presents t m (in-frame {f} on code p) =
-    let still = passes-same (t .front) (dropped (t .front)) f refl refl p in
-    rw (passes-heard (dropped (t .front)) f still (no-inventory f code (p .four)), code, on)
+frame-presents t m (in-frame {f} on code p) = rw (passes-heard (t .front) f (λ e. omega arith) p, code, on)
 
 -- ---- the law
 

@@ -13,7 +13,7 @@ use Rattle.rights.specs.declared.View.{View}
 use Rattle.rights.specs.declared.Verdict.{Verdict}
 use Rattle.rights.specs.declared.Verdict.the-variants.{Success, Error}
 use Rattle.rights.specs.Vault.{viewOf}
-use Rattle.rights.specs.Passwords.{presentOf, presentedVerdict}
+use Rattle.rights.specs.Passwords.{presentOf}
 use Rattle.rights.specs.Blocks.{readableAt}
 use Rattle.rights.proofs.Cases.{if-one, or-one, both}
 use Rattle.rights.proofs.Sessions.{present-keeps}
@@ -29,7 +29,7 @@ use Rattle.record.specs.Update.{withState, withRound, withHeld, passingCleared}
 use Rattle.tag.specs.Rules.{isCode, heldRule}
 use Rattle.tag.specs.Work.{Answer, verdict, Unit, block, register, afi, dsfid, blockLock, afiLock, dsfidLock, password, Act, says, lists, presents, writes, closes, blockShown, listing, unitOnTag, unitOnMemory, applyToTag, applyToMemory, Done, perform}
 use Rattle.tag.proofs.Lengths.{carried}
-use Rattle.tag.proofs.Codes.{Coded, presented-coded}
+use Rattle.tag.proofs.Codes.{Coded, present-coded}
 
 -- ---- a record
 
@@ -75,7 +75,7 @@ pub data RangedUnit : Unit → Type 0 where
   register-in : {address x : ℕ} → x < 256 → RangedUnit (register address x)
   afi-in : {x : ℕ} → x < 256 → RangedUnit (afi x)
   dsfid-in : {x : ℕ} → x < 256 → RangedUnit (dsfid x)
-  block-lock-in : {b : ℕ} → RangedUnit (blockLock b)
+  block-lock-in : (second : Bool) → RangedUnit (blockLock second)
   afi-lock-in : RangedUnit afiLock
   dsfid-lock-in : RangedUnit dsfidLock
   password-in : {n w : ℕ} → w < 2 ^ 64 → RangedUnit (password n w)
@@ -120,12 +120,10 @@ module _ {t : Tag} (r : Ranged t) where
       record { front = record { uid = front .uid; afi = h; dsfid = front .dsfid; round = front .round; held = front .held }; vault = vault }
   unit-ranged (dsfid-in h) =
       record { front = record { uid = front .uid; afi = front .afi; dsfid = h; round = front .round; held = front .held }; vault = vault }
-  unit-ranged (block-lock-in {b}) =
-      record {
-        front = front;
-        vault = if-one RangedVault (eqb b 0) (λ e. record { bytes = vault .bytes; four = vault .four; passwords = vault .passwords })
-            (λ e. record { bytes = vault .bytes; four = vault .four; passwords = vault .passwords });
-      }
+  unit-ranged (block-lock-in true) =
+      record { front = front; vault = record { bytes = vault .bytes; four = vault .four; passwords = vault .passwords } }
+  unit-ranged (block-lock-in false) =
+      record { front = front; vault = record { bytes = vault .bytes; four = vault .four; passwords = vault .passwords } }
   unit-ranged afi-lock-in =
       record { front = record { uid = front .uid; afi = front .afi; dsfid = front .dsfid; round = front .round; held = front .held }; vault = vault }
   unit-ranged dsfid-lock-in =
@@ -141,7 +139,7 @@ unit-bytes (block-in {b} p) q = below-sets (4 * b) p q
 unit-bytes (register-in h) q = q
 unit-bytes (afi-in h) q = q
 unit-bytes (dsfid-in h) q = q
-unit-bytes block-lock-in q = q
+unit-bytes (block-lock-in second) q = q
 unit-bytes afi-lock-in q = q
 unit-bytes dsfid-lock-in q = q
 unit-bytes (password-in h) q = q
@@ -182,9 +180,8 @@ perform-ranged {t} r q (lists-in {limit} {first} {count} {status}) =
     record { answer = listing-bytes (viewOf (t .vault)) limit first count status q; tag = r; memory = q }
 perform-ranged {t} r q (presents-in {n} {w}) =
     let same = present-keeps (t .vault .keys) n w in
-    let p = presentOf (t .vault .keys) n w in
     record {
-      answer = verdict-bytes (presentedVerdict (p .answer)) (presented-coded (p .answer));
+      answer = verdict-bytes (presentOf (t .vault .keys) n w .answer) (present-coded (t .vault .keys) n w);
       tag = record {
         front = r .front;
         vault = record { bytes = r .vault .bytes; four = rw same (r .vault .four); passwords = rw same (r .vault .passwords) };

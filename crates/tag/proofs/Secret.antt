@@ -1,7 +1,7 @@
 -- Demand 3: the theorem over runs, for any set of passwords; and the same of a host call and of any number of them.
 -- Assumes nothing.
 use Prim.Native.Nat.{ℕ, _/_}
-use mathlib.Core.Path.{_≡_, refl, ap, subst}
+use mathlib.Core.Path.{_≡_, refl, sym, ap, subst}
 use mathlib.Core.Bool.{Bool, true, false, not, _||_}
 use mathlib.Core.List.{List, [], _∷_, _++_}
 use lib.ListN.{length, drop}
@@ -11,13 +11,12 @@ use Rattle.put.specs.If.{if_then_else_}
 use Rattle.rights.specs.declared.View.{View}
 use Rattle.rights.proofs.Cases.{both}
 use Rattle.record.specs.declared.Tag.{Tag}
-use Rattle.record.specs.declared.Refusal.{Refusal}
-use Rattle.record.specs.declared.Refusal.the-variants as refusal
+use Rattle.record.specs.declared.Outcome.{Outcome}
 use Rattle.tag.specs.Rules.{blocksOf, sound}
 use Rattle.tag.specs.Step.{Event, step, run}
-use Rattle.tag.specs.Host.{isMemory, leastRoom, EventGiven, eventRefused, eventDone, eventGiven}
+use Rattle.tag.specs.Host.{isMemory, leastRoom, EventGiven, eventRefused, eventDone, eventGiven, EventGives}
 use Rattle.tag.specs.Demand3.{served}
-use Rattle.tag.specs.Secrecy.{Shut, presented, opens, unopened, Alike, Secrecy, unrefused, SameCall, CallSecrecy, unopenedCalls, CallsSecrecy}
+use Rattle.tag.specs.Secrecy.{Shut, presented, opens, unopened, Alike, Secrecy, unrefused, SameCall, givenBy, CallSecrecy, unopenedCalls, CallsSecrecy}
 use Rattle.tag.proofs.Unchanged.{as-it-was, kept-after, kept-step, unchanged}
 use Rattle.tag.proofs.Unlearned.{alike-step}
 
@@ -55,21 +54,21 @@ module _ (chosen : ℕ → Bool) where
   -- the call, by its three tests
   abbrev given : Bool → Bool → Bool → Tag → Event → List ℕ → List ℕ → EventGiven
   given memory small record-rules t e m x =
-      if not memory then eventRefused refusal.Memory t m x else
-      if small then eventRefused refusal.Room t m x else
-      if not record-rules then eventRefused refusal.Record t m x else eventDone t e m x
+      if not memory then eventRefused 1 t m x else
+      if small then eventRefused 2 t m x else
+      if not record-rules then eventRefused 3 t m x else eventDone t e m x
 
   module _ (t u : Tag) (m o : List ℕ) (e : Event) (x : List ℕ) (a : Alike chosen t u m o) (shut : Shut chosen (t .vault .keys .session)) where
     -- what two calls give is the same, if neither presents a password that guards
     abbrev Same : EventGiven → EventGiven → Type 0
     Same g h =
-        opens chosen (t .vault .keys) (unrefused (g .result .refusal) (presented t m e)) ≡ false
-        → opens chosen (u .vault .keys) (unrefused (h .result .refusal) (presented u o e)) ≡ false
-        → SameCall chosen t u m o (g .result) (h .result) (g .memory) (h .memory) (g .room) (h .room)
+        opens chosen (t .vault .keys) (unrefused (g .number) (presented t m e)) ≡ false
+        → opens chosen (u .vault .keys) (unrefused (h .number) (presented u o e)) ≡ false
+        → SameCall chosen t u m o g h
 
-    refused-same : (r : Refusal) → Same (eventRefused r t m x) (eventRefused r u o x)
-    refused-same r p q = record {
-      refusal = refl;
+    refused-same : (n : ℕ) → Same (eventRefused n t m x) (eventRefused n u o x)
+    refused-same n p q = record {
+      number = refl;
       length = refl;
       room = refl;
       alike = a;
@@ -81,7 +80,7 @@ module _ (chosen : ℕ → Bool) where
     done-same p q =
         let s = alike-step chosen t u m o a shut e p q in
         record {
-          refusal = refl;
+          number = refl;
           length = ap length (s .answer);
           room = ap (λ (l : List ℕ). l ++ drop (length l) x) (s .answer);
           alike = s .alike;
@@ -90,9 +89,9 @@ module _ (chosen : ℕ → Bool) where
         }
 
     given-same : (memory small rules : Bool) → Same (given memory small rules t e m x) (given memory small rules u e o x)
-    given-same false small rules = refused-same refusal.Memory
-    given-same true true rules = refused-same refusal.Room
-    given-same true false false = refused-same refusal.Record
+    given-same false small rules = refused-same 1
+    given-same true true rules = refused-same 2
+    given-same true false false = refused-same 3
     given-same true false true = done-same
 
     -- the record rules look at no password
@@ -110,10 +109,15 @@ module _ (chosen : ℕ → Bool) where
         (λ i. given (eqb (a .memory .size i) 2048 || eqb (a .memory .size i) 8192) (ltb (length x) leastRoom) (sound-same i) u e o x)
         (given-same (isMemory m) (ltb (length x) leastRoom) (sound (blocksOf m) t))
 
+  -- what a call gives that keeps its promise
+  as-given : {t : Tag} {e : Event} {m x m′ x′ : List ℕ} {r : Outcome} → EventGives t e m x m′ x′ r → eventGiven t e m x ≡ givenBy r m′ x′
+  as-given g = sym (λ i. record { number = g .number i; length = g .length i; tag = g .tag i; memory = g .memory i; room = g .room i })
+
   pub call-secrecy : CallSecrecy chosen
   call-secrecy t u m o e x r s m′ o′ x′ y′ a shut p q g h =
-      rw (g .result, g .memory, g .room, h .result, h .memory, h .room)
-      (call-same t u m o e x a shut (rw (g .result) at p) (rw (h .result) at q))
+      subst (SameCall chosen t u m o (givenBy r m′ x′)) (as-given h)
+      (subst (λ (k : EventGiven). SameCall chosen t u m o k (eventGiven u e o x)) (as-given g)
+      (call-same t u m o e x a shut (rw (g .number) at p) (rw (h .number) at q)))
 
   -- ---- host calls in a row
 
@@ -131,9 +135,9 @@ module _ (chosen : ℕ → Bool) where
       let g = eventGiven t (c .event) m (c .room) in
       let h = eventGiven u (c .event) o (c .room) in
       let s = call-same t u m o (c .event) (c .room) a shut (not-true _ (x .0)) (not-true _ (y .0)) in
-      let r = calls-secrecy (g .result .tag) (h .result .tag) (g .memory) (h .memory) cs (s .alike) (s .kept .shut) (x .1) (y .1) in
+      let r = calls-secrecy (g .tag) (h .tag) (g .memory) (h .memory) cs (s .alike) (s .kept .shut) (x .1) (y .1) in
       record {
-        seen = λ i. record { refusal = s .refusal i; length = s .length i; room = s .room i } ∷ r .seen i;
+        seen = λ i. record { number = s .number i; length = s .length i; room = s .room i } ∷ r .seen i;
         alike = r .alike;
         kept = kept-after chosen _ _ _ _ _ _ (s .kept) (r .kept);
         kept′ = kept-after chosen _ _ _ _ _ _ (s .kept′) (r .kept′);

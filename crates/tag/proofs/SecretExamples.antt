@@ -14,12 +14,11 @@ use Rattle.crc.specs.Crc.{crcBit, crcBits, crcByte, crcFrom, crcOf, crcBytes}
 use Rattle.rights.specs.declared.Session.{Session}
 use Rattle.rights.specs.declared.Session.the-variants.{None, Configuration, User1}
 use Rattle.rights.specs.Vault.{viewOf}
-use Rattle.rights.specs.Passwords.{sessionOf, isOpen, passwordOf, presentOf, changedOf}
+use Rattle.rights.specs.Passwords.{sessionOf, isOpen, passwordOf, presentOf, changeVerdict}
 use Rattle.rights.specs.Blocks.{areaOf, registerOf, serves, mayRead, mayWrite, readableAt, writableAt, lockedAt, barredAt, statusAt, crossesAt, anyBarred, hiddenBy}
-use Rattle.rights.specs.Registers.{registerAt, isRegister, allows, permits, writtenOf, withRegister, possible}
+use Rattle.rights.specs.Registers.{registerAt, isRegister, allows, permits, registerVerdict, withRegister, possible}
 use Rattle.rights.proofs.Hidden.{none-open, hidden-by-one}
 use Rattle.record.specs.declared.Tag.{Tag}
-use Rattle.record.specs.Update.{withFront, passingCleared}
 use Rattle.tag.specs.Rules.{blocksOf, offRule, roundRule, heldRule, togetherRule, sound}
 use Rattle.tag.specs.Table.{entryOf, firstOf, moreOf, headOf, limitOf, lengthOf}
 use Rattle.tag.specs.Frame.{check2, check3, check4, custom, check5, afterCode, fieldsAt, otherUid, check6, selectOfAnother, check7, check8, check9, check10, heardOf}
@@ -29,10 +28,10 @@ use Rattle.tag.specs.Blocks.{readVerdict, statuses, statusVerdict, write
 use Rattle.tag.specs.Commands.{actOf, requestOf}
 use Rattle.tag.specs.Step.{Event, fieldOn, fieldOff, endOfFrame, request, frameOf, workOf, step, run}
 use Rattle.tag.specs.Image.{factory}
-use Rattle.tag.specs.Host.{numberOf, eventGiven}
+use Rattle.tag.specs.Host.{eventGiven}
 use Rattle.tag.specs.Demand3.{Untold, Call, Seen, served, UntoldIn}
 use Rattle.tag.specs.Secrecy.{SameBut, Alike, Shut, presented, unopened, only, unopenedCalls}
-use Rattle.tag.specs.Cases.{bytes, ours}
+use Rattle.tag.specs.Cases.{bytes, ours, withField}
 use Rattle.tag.proofs.Secret.{shut-too}
 use Rattle.tag.proofs.Demand3.{except-is, closed-is, is-unopened, is-calls-unopened, demanded, demanded-in}
 
@@ -216,7 +215,7 @@ calls =
 
 -- number and answer of each
 pub told : List Seen → List (List ℕ)
-told = map (λ (s : Seen). numberOf (s .refusal) ∷ take (s .length) (s .room))
+told = map (λ (s : Seen). s .number ∷ take (s .length) (s .room))
 
 pub numbers : List (List ℕ)
 numbers = (0 ∷ []) ∷ (2 ∷ []) ∷ (2 ∷ []) ∷ (0 ∷ bytes 4 0x0115B351) ∷ []
@@ -282,14 +281,11 @@ answersAtTheEnd =
 -- ---- lists that break a premise, for the pair in the field
 
 -- the pair in the field, with a session open
-abbrev inField : Tag → Tag
-inField t = withFront t (passingCleared (t .front) true)
-
 pub firstIn : Session → Tag
-firstIn s = inField (tagOf s 0x1111111111111111)
+firstIn s = withField (tagOf s 0x1111111111111111)
 
 pub secondIn : Session → Tag
-secondIn s = inField (tagOf s 0x2222222222222222)
+secondIn s = withField (tagOf s 0x2222222222222222)
 
 -- block 8 is read
 pub reading : List Event
@@ -356,7 +352,7 @@ pub record Computed : Type 0 where
   pub configured′ : Plays 1 (secondIn None) secondMemory configuring false (success ∷ success ∷ secondEight ∷ [])
 
 pub computed : Computed
-unfolding first second firstIn secondIn firstMemory secondMemory tagOf memoryOf lowest events answers unpowered enough calls told numbers eventGiven served unopenedCalls third fourth thirdMemory fourthMemory largeOf largeMemoryOf largeLowest atTheEnd answersAtTheEnd reading writing opening openingOther configuring firstEight secondEight success wrong unreadable sound offRule roundRule heldRule togetherRule possible presented unopened bytes ours numberAt bytesOf crcBit crcBits crcByte crcFrom crcOf crcBytes sessionOf isOpen presentOf changedOf areaOf registerOf serves mayRead mayWrite readableAt writableAt lockedAt barredAt statusAt crossesAt anyBarred registerAt isRegister allows permits writtenOf withRegister entryOf firstOf moreOf headOf limitOf lengthOf check2 check3 check4 custom check5 afterCode fieldsAt otherUid check6 selectOfAnother check7 check8 check9 check10 heardOf listing applyToTag applyToMemory perform maskTooLong wrongLength afiMatches afiFits maskFits slotOf inSlot unheard inventoryOf nextSlot readVerdict statuses statusVerdict writeVerdict blockUnits lockVerdict actOf requestOf frameOf workOf step run factory
+unfolding first second withField firstIn secondIn firstMemory secondMemory tagOf memoryOf lowest events answers unpowered enough calls told numbers eventGiven served unopenedCalls third fourth thirdMemory fourthMemory largeOf largeMemoryOf largeLowest atTheEnd answersAtTheEnd reading writing opening openingOther configuring firstEight secondEight success wrong unreadable sound offRule roundRule heldRule togetherRule possible presented unopened bytes ours numberAt bytesOf crcBit crcBits crcByte crcFrom crcOf crcBytes sessionOf isOpen presentOf changeVerdict areaOf registerOf serves mayRead mayWrite readableAt writableAt lockedAt barredAt statusAt crossesAt anyBarred registerAt isRegister allows permits registerVerdict withRegister entryOf firstOf moreOf headOf limitOf lengthOf check2 check3 check4 custom check5 afterCode fieldsAt otherUid check6 selectOfAnother check7 check8 check9 check10 heardOf listing applyToTag applyToMemory perform maskTooLong wrongLength afiMatches afiFits maskFits slotOf inSlot unheard inventoryOf nextSlot readVerdict statuses statusVerdict writeVerdict blockUnits lockVerdict actOf requestOf frameOf workOf step run factory
 computed =
     record {
       small = record { sound = refl; met = refl; answers = refl };
@@ -484,7 +480,7 @@ byte i j said = getD (getD said i []) j 0
 
 broken : {s : Session} {es : List Event} {b c : Bool} {x y : List (List ℕ)} (i j : ℕ) → byte i j x ≢ byte i j y
     → Plays 1 (firstIn s) firstMemory es b x → Plays 1 (secondIn s) secondMemory es c y → Broken s es b c
-unfolding firstIn secondIn tagOf
+unfolding withField firstIn secondIn tagOf
 broken {s} i j d p q = record {
   sound = p .sound;
   alike = record { front = refl; view = refl; passwords = alike-small s .passwords; memory = alike-small s .memory };

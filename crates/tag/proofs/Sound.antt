@@ -14,7 +14,7 @@ use Rattle.rights.proofs.Possible.{all-at-end}
 use Rattle.record.specs.declared.Front.{Front}
 use Rattle.record.specs.declared.Tag.{Tag}
 use Rattle.record.specs.declared.State.the-variants.{Ready}
-use Rattle.record.specs.Update.{withState, withFront, powered}
+use Rattle.record.specs.Update.{withState, withFront, passingCleared, sessionless}
 use Rattle.record.specs.Tests.{isQuiet, noRound, noneHeld}
 use Rattle.tag.specs.Rules.{blocksOf, lastEnd, offRule, roundRule, heldRule, togetherRule, sound}
 use Rattle.tag.specs.Table.{entryOf}
@@ -101,7 +101,8 @@ module _ (blocks : ℕ) (t : Tag) (m : List ℕ) (l : Live (lastEnd blocks) t) w
 -- ---- any event
 
 -- "Field off clears passing parts; field on gives Ready": whatever was set before
-cleared-sound : (blocks : ℕ) (t : Tag) (on : Bool) → possible (lastEnd blocks) (t .vault .areas) ≡ true → sound blocks (powered t on) ≡ true
+cleared-sound : (blocks : ℕ) (t : Tag) (on : Bool) → possible (lastEnd blocks) (t .vault .areas) ≡ true
+    → sound blocks (record { front = passingCleared (t .front) on; vault = sessionless (t .vault) }) ≡ true
 unfolding sound offRule roundRule heldRule togetherRule
 cleared-sound blocks t true p = join p refl
 cleared-sound blocks t false p = join p refl

@@ -6,14 +6,14 @@ use mathlib.Core.Bool.{Bool, true, false, not}
 use mathlib.Core.List.{List, [], _∷_}
 use native.Mathlib.Omega.{arith}
 use lib.ListN.{length, getD}
-use lib.Dec.{leb, eqb}
+use lib.Dec.{leb}
 use lib.Seq.{getD-set-other, length-sets}
 use borrow.Author.Tests.{leb-true, not-true}
 use Rattle.rights.specs.declared.Areas.{Areas}
 use Rattle.rights.specs.declared.Vault.{Vault}
 use Rattle.rights.specs.Vault.{viewOf}
 use Rattle.rights.specs.Blocks.{hiddenBy}
-use Rattle.rights.proofs.Cases.{if-one, both}
+use Rattle.rights.proofs.Cases.{both}
 use Rattle.rights.proofs.Sessions.{present-keeps}
 use Rattle.rights.proofs.Hidden.{none-open, present-shut}
 use Rattle.record.specs.declared.Tag.{Tag}
@@ -62,11 +62,10 @@ module _ (chosen : ℕ → Bool) where
   kept-unit (register address x) t m shut f = let z : _≡_ {A = ℕ} 0 1 = cc in absurd (omega arith)
   kept-unit (afi x) t m shut f = as-it-was (t .vault) m shut
   kept-unit (dsfid x) t m shut f = as-it-was (t .vault) m shut
-  kept-unit (blockLock b) t m shut f =
-      let k = as-it-was (t .vault) m shut in
-      if-one (λ (v : Vault). Kept chosen (t .vault) m v m) (eqb b 0)
-      (λ e. record { passwords = k .passwords; memory = k .memory; areas = refl; shut = shut })
-      (λ e. record { passwords = k .passwords; memory = k .memory; areas = refl; shut = shut })
+  kept-unit (blockLock true) t m shut f =
+      let k = as-it-was (t .vault) m shut in record { passwords = k .passwords; memory = k .memory; areas = refl; shut = shut }
+  kept-unit (blockLock false) t m shut f =
+      let k = as-it-was (t .vault) m shut in record { passwords = k .passwords; memory = k .memory; areas = refl; shut = shut }
   kept-unit afiLock t m shut f = as-it-was (t .vault) m shut
   kept-unit dsfidLock t m shut f = as-it-was (t .vault) m shut
   kept-unit (password n w) t m shut f = record {

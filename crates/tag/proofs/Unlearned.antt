@@ -7,19 +7,18 @@ use mathlib.Core.List.{List, [], _∷_, _++_}
 use native.Mathlib.Omega.{arith}
 use lib.Dec.{ltb, eqb}
 use Rattle.put.specs.If.{if_then_else_}
-use Rattle.rights.specs.declared.Vault.{Vault}
 use Rattle.rights.specs.declared.View.{View}
 use Rattle.rights.specs.declared.Session.the-variants.{None}
 use Rattle.rights.specs.Vault.{viewOf}
 use Rattle.rights.specs.Passwords.{passwordOf}
 use Rattle.rights.specs.Blocks.{readableAt, statusAt}
-use Rattle.rights.proofs.Cases.{if-both, both}
+use Rattle.rights.proofs.Cases.{both}
 use Rattle.rights.proofs.Sessions.{present-keeps}
 use Rattle.rights.proofs.Hidden.{readable-unhidden, present-same}
 use Rattle.record.specs.declared.Front.{Front}
 use Rattle.record.specs.declared.Tag.{Tag}
 use Rattle.record.specs.declared.Held.the-variants as held
-use Rattle.record.specs.Update.{withAfi, withDsfid, withAfiLocked, withDsfidLocked, withFront, withVault, withHeld}
+use Rattle.record.specs.Update.{withAfi, withDsfid, withAfiLocked, withDsfidLocked, withFront, withHeld}
 use Rattle.tag.specs.Rules.{blocksOf}
 use Rattle.tag.specs.Work.{Answer, silence, verdict, body, Unit, block, register, afi, dsfid, blockLock, afiLock, dsfidLock, password, Act, says, lists, presents, writes, closes, Work, shown, blockShown, listing, unitOnTag, unitOnMemory, applyToTag, applyToMemory, Done, perform}
 use Rattle.tag.specs.Step.{Event, Stepped, settled, performed, workOf, step}
@@ -70,20 +69,18 @@ module _ (chosen : ℕ → Bool) where
   alike-unit (register address x) t u m o h a = let z : _≡_ {A = ℕ} 0 1 = cc in absurd (omega arith)
   alike-unit (afi x) t u m o h a = fronts t u m o _ _ (ap (λ (f : Front). withAfi f x) (a .front)) a
   alike-unit (dsfid x) t u m o h a = fronts t u m o _ _ (ap (λ (f : Front). withDsfid f x) (a .front)) a
-  alike-unit (blockLock b) t u m o h a =
-      if-both (λ (v w : Vault). Alike chosen (withVault t v) (withVault u w) m o) (eqb b 0)
-      (record {
-        front = a .front;
-        view = ap (λ (v : View). record { areas = v .areas; lock0 = true; lock1 = v .lock1; lockcfg = v .lockcfg; session = v .session }) (a .view);
-        passwords = a .passwords;
-        memory = a .memory;
-      })
-      (record {
-        front = a .front;
-        view = ap (λ (v : View). record { areas = v .areas; lock0 = v .lock0; lock1 = true; lockcfg = v .lockcfg; session = v .session }) (a .view);
-        passwords = a .passwords;
-        memory = a .memory;
-      })
+  alike-unit (blockLock true) t u m o h a = record {
+    front = a .front;
+    view = ap (λ (v : View). record { areas = v .areas; lock0 = v .lock0; lock1 = true; lockcfg = v .lockcfg; session = v .session }) (a .view);
+    passwords = a .passwords;
+    memory = a .memory;
+  }
+  alike-unit (blockLock false) t u m o h a = record {
+    front = a .front;
+    view = ap (λ (v : View). record { areas = v .areas; lock0 = true; lock1 = v .lock1; lockcfg = v .lockcfg; session = v .session }) (a .view);
+    passwords = a .passwords;
+    memory = a .memory;
+  }
   alike-unit afiLock t u m o h a = fronts t u m o _ _ (ap withAfiLocked (a .front)) a
   alike-unit dsfidLock t u m o h a = fronts t u m o _ _ (ap withDsfidLocked (a .front)) a
   alike-unit (password n w) t u m o h a =

@@ -4,7 +4,7 @@ use Prim.Native.Nat.{ℕ, zero, suc, _+_}
 use mathlib.Core.Bool.{Bool, not}
 use mathlib.Core.List.{List, [], _∷_}
 use lib.ListN.{take, drop}
-use lib.Dec.{leb, ltb}
+use lib.Dec.{leb, ltb, eqb}
 use Rattle.put.specs.If.{if_then_else_}
 use Rattle.rights.specs.declared.View.{View}
 use Rattle.rights.specs.declared.Verdict.{Verdict}
@@ -62,4 +62,4 @@ lockVerdict v b =
     if not (writableAt v b) then Error 0x14 else Success
 
 abbrev pub lockOf : View → ℕ → Act
-lockOf v b = granted (lockVerdict v b) (writes (blockLock b ∷ []))
+lockOf v b = granted (lockVerdict v b) (writes (blockLock (eqb b 1) ∷ []))

@@ -11,8 +11,8 @@ use Rattle.rights.specs.declared.Verdict.{Verdict}
 use Rattle.rights.specs.declared.Verdict.the-variants.{Success, Error}
 use Rattle.rights.specs.declared.registers.RegisterRead.{RegisterRead}
 use Rattle.rights.specs.declared.registers.RegisterRead.the-variants as read
-use Rattle.rights.specs.Passwords.{changedOf, changedVerdict}
-use Rattle.rights.specs.Registers.{registerAt, writtenOf, writtenVerdict}
+use Rattle.rights.specs.Passwords.{changeVerdict}
+use Rattle.rights.specs.Registers.{registerAt, registerVerdict}
 use Rattle.record.specs.declared.Front.{Front}
 use Rattle.record.specs.declared.State.the-variants.{Ready, Quiet, Selected}
 use Rattle.record.specs.Update.{withState}
@@ -49,9 +49,9 @@ frontAfter Unlisted t = t
 abbrev pub unless : Bool → ℕ → Verdict
 unless locked code = if locked then Error code else Success
 
--- "Unknown 10h", or the register's byte
+-- the error of a read, or the register's byte
 abbrev pub registerAnswer : RegisterRead → Act
-registerAnswer read.Unknown = says (error 0x10)
+registerAnswer (read.Error c) = says (error c)
 registerAnswer (read.Value x) = says (body (x ∷ []))
 
 -- what a command does, on a tag of so many blocks; its fields begin with a block, an address, a password's number or a byte
@@ -72,10 +72,10 @@ actOf Status t v blocks e option fields =
     statusOf v (limitOf e blocks) (firstOf e fields) (moreOf e fields + 1)
 actOf ReadRegister t v blocks e option fields = registerAnswer (registerAt v (getD fields 0 0))
 actOf WriteRegister t v blocks e option fields =
-    granted (writtenVerdict (writtenOf (lastEnd blocks) v (getD fields 0 0) (getD fields 1 0)))
+    granted (registerVerdict (lastEnd blocks) v (getD fields 0 0) (getD fields 1 0))
     (writes (register (getD fields 0 0) (getD fields 1 0) ∷ []))
 actOf WritePassword t v blocks e option fields =
-    granted (changedVerdict (changedOf (v .session) (getD fields 0 0))) (writes (password (getD fields 0 0) (numberAt 8 fields 1) ∷ []))
+    granted (changeVerdict (v .session) (getD fields 0 0)) (writes (password (getD fields 0 0) (numberAt 8 fields 1) ∷ []))
 actOf Present t v blocks e option fields = presents (getD fields 0 0) (numberAt 8 fields 1)
 actOf Unlisted t v blocks e option fields = says (error 0x02)
 

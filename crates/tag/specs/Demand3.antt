@@ -16,10 +16,9 @@ use Rattle.rights.specs.Vault.{viewOf}
 use Rattle.rights.specs.Passwords.{isOpen, passwordOf}
 use Rattle.rights.specs.Blocks.{OnlyThis}
 use Rattle.record.specs.declared.Tag.{Tag}
-use Rattle.record.specs.declared.Refusal.{Refusal}
 use Rattle.tag.specs.Frame.{codeOf, fieldsAt, fieldsFrom, Passes}
 use Rattle.tag.specs.Step.{Event, request, step, run}
-use Rattle.tag.specs.Host.{numberOf, EventGiven, eventGiven}
+use Rattle.tag.specs.Host.{EventGiven, eventGiven}
 
 -- ---- "two tags alike except in password 1, 2 or 3, whichever is chosen, and in bytes .. that only that password makes readable"
 
@@ -107,12 +106,12 @@ pub record Call : Type 0 where
 
 -- what it gives but for record and memory, of which `still` speaks: number, length and every byte of the room
 pub record Seen : Type 0 where
-  pub refusal : Refusal
+  pub number : ℕ
   pub length : ℕ
   pub room : List ℕ
 
 abbrev pub seenOf : EventGiven → Seen
-seenOf g = record { refusal = g .result .refusal; length = g .result .length; room = g .room }
+seenOf g = record { number = g .number; length = g .length; room = g .room }
 
 -- calls in a row, each on the record and the memory that the one before it left
 pub record Served : Type 0 where
@@ -124,15 +123,15 @@ unfoldable pub served : Tag → List ℕ → List Call → Served
 served t m [] = record { seen = []; tag = t; memory = m }
 served t m (c ∷ cs) =
     let g = eventGiven t (c .event) m (c .room) in
-    let r = served (g .result .tag) (g .memory) cs in
+    let r = served (g .tag) (g .memory) cs in
     record { seen = seenOf g ∷ r .seen; tag = r .tag; memory = r .memory }
 
 -- a call of a list presents to the tag its own password; one that is refused presents nothing
 pub data OpenedIn (p : ℕ) : Tag → List ℕ → List Call → Type 0 where
   now-in : {t : Tag} {m : List ℕ} {c : Call} {cs : List Call}
-      → numberOf (eventGiven t (c .event) m (c .room) .result .refusal) ≡ 0 → Opens p t (c .event) → OpenedIn p t m (c ∷ cs)
+      → eventGiven t (c .event) m (c .room) .number ≡ 0 → Opens p t (c .event) → OpenedIn p t m (c ∷ cs)
   later-in : {t : Tag} {m : List ℕ} {c : Call} {cs : List Call}
-      → OpenedIn p (eventGiven t (c .event) m (c .room) .result .tag) (eventGiven t (c .event) m (c .room) .memory) cs → OpenedIn p t m (c ∷ cs)
+      → OpenedIn p (eventGiven t (c .event) m (c .room) .tag) (eventGiven t (c .event) m (c .room) .memory) cs → OpenedIn p t m (c ∷ cs)
 
 pub record UntoldIn (p : ℕ) (t u : Tag) (m o : List ℕ) (cs : List Call) : Type 0 where
   pub seen : served t m cs .seen ≡ served u o cs .seen

@@ -18,12 +18,11 @@ use Rattle.rights.specs.Vault.{viewOf}
 use Rattle.rights.specs.Passwords.{isOpen, passwordOf}
 use Rattle.rights.specs.Blocks.{hiddenBy}
 use Rattle.record.specs.declared.Tag.{Tag}
-use Rattle.record.specs.declared.Refusal.{Refusal}
 use Rattle.record.specs.declared.Outcome.{Outcome}
 use Rattle.tag.specs.Rules.{blocksOf}
 use Rattle.tag.specs.Work.{Act, says, lists, presents, writes, closes}
 use Rattle.tag.specs.Step.{Event, workOf, step, run}
-use Rattle.tag.specs.Host.{numberOf, eventGiven, EventGives}
+use Rattle.tag.specs.Host.{numberOf, EventGiven, eventGiven, EventGives}
 use Rattle.tag.specs.Demand3.{Claim, Call, served}
 
 -- ---- "bytes of Areas 2 to 4 that only that password makes readable"
@@ -126,17 +125,21 @@ only p n = eqb n p
 -- ---- the same of host calls, whatever is lent
 
 -- a call that is refused presents nothing
-abbrev pub unrefused : Refusal → Option Claim → Option Claim
-unrefused r c = if eqb (numberOf r) 0 then c else none
+abbrev pub unrefused : ℕ → Option Claim → Option Claim
+unrefused number c = if eqb number 0 then c else none
 
 -- after a call on each tag: number, length and every byte of the room
-pub record SameCall (chosen : ℕ → Bool) (t u : Tag) (m o : List ℕ) (r s : Outcome) (m′ o′ x′ y′ : List ℕ) : Type 0 where
-  pub refusal : r .refusal ≡ s .refusal
-  pub length : r .length ≡ s .length
-  pub room : x′ ≡ y′
-  pub alike : Alike chosen (r .tag) (s .tag) m′ o′
-  pub kept : Kept chosen (t .vault) m (r .tag .vault) m′
-  pub kept′ : Kept chosen (u .vault) o (s .tag .vault) o′
+pub record SameCall (chosen : ℕ → Bool) (t u : Tag) (m o : List ℕ) (g h : EventGiven) : Type 0 where
+  pub number : g .number ≡ h .number
+  pub length : g .length ≡ h .length
+  pub room : g .room ≡ h .room
+  pub alike : Alike chosen (g .tag) (h .tag) (g .memory) (h .memory)
+  pub kept : Kept chosen (t .vault) m (g .tag .vault) (g .memory)
+  pub kept′ : Kept chosen (u .vault) o (h .tag .vault) (h .memory)
+
+-- what a call has given that returns r and leaves the memory m and the room x
+abbrev pub givenBy : Outcome → List ℕ → List ℕ → EventGiven
+givenBy r m x = record { number = numberOf (r .refusal); length = r .length; tag = r .tag; memory = m; room = x }
 
 -- for any record, memory and room: a call on each tag with the same event, and the same room x at entry
 abbrev pub CallSecrecy : (ℕ → Bool) → Type 0
@@ -144,11 +147,11 @@ CallSecrecy chosen =
     (t u : Tag) (m o : List ℕ) (e : Event) (x : List ℕ) (r s : Outcome) (m′ o′ x′ y′ : List ℕ)
     → Alike chosen t u m o
     → Shut chosen (t .vault .keys .session)
-    → opens chosen (t .vault .keys) (unrefused (r .refusal) (presented t m e)) ≡ false
-    → opens chosen (u .vault .keys) (unrefused (s .refusal) (presented u o e)) ≡ false
+    → opens chosen (t .vault .keys) (unrefused (numberOf (r .refusal)) (presented t m e)) ≡ false
+    → opens chosen (u .vault .keys) (unrefused (numberOf (s .refusal)) (presented u o e)) ≡ false
     → EventGives t e m x m′ x′ r
     → EventGives u e o x o′ y′ s
-    → SameCall chosen t u m o r s m′ o′ x′ y′
+    → SameCall chosen t u m o (givenBy r m′ x′) (givenBy s o′ y′)
 
 -- ---- and of any number of them, refused ones among them
 
@@ -157,8 +160,8 @@ unfoldable pub unopenedCalls : (ℕ → Bool) → Tag → List ℕ → List Call
 unopenedCalls chosen t m [] = true
 unopenedCalls chosen t m (c ∷ cs) =
     let g = eventGiven t (c .event) m (c .room) in
-    not (opens chosen (t .vault .keys) (unrefused (g .result .refusal) (presented t m (c .event))))
-    && unopenedCalls chosen (g .result .tag) (g .memory) cs
+    not (opens chosen (t .vault .keys) (unrefused (g .number) (presented t m (c .event))))
+    && unopenedCalls chosen (g .tag) (g .memory) cs
 
 pub record SameServed (chosen : ℕ → Bool) (t u : Tag) (m o : List ℕ) (cs : List Call) : Type 0 where
   pub seen : served t m cs .seen ≡ served u o cs .seen

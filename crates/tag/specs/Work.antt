@@ -6,14 +6,14 @@ use mathlib.Core.Bool.{Bool, true, false, _&&_}
 use mathlib.Core.List.{List, [], _∷_, _++_}
 use lib.ListN.{take, drop}
 use lib.Seq.{sets}
-use lib.Dec.{ltb, eqb}
+use lib.Dec.{ltb}
 use Rattle.put.specs.If.{if_then_else_}
 use Rattle.rights.specs.declared.Vault.{Vault}
 use Rattle.rights.specs.declared.View.{View}
 use Rattle.rights.specs.declared.Verdict.{Verdict}
 use Rattle.rights.specs.declared.Verdict.the-variants.{Success, Error}
 use Rattle.rights.specs.Vault.{viewOf}
-use Rattle.rights.specs.Passwords.{withPassword, presentOf, presentedVerdict}
+use Rattle.rights.specs.Passwords.{withPassword, presentOf}
 use Rattle.rights.specs.Blocks.{readableAt, statusAt}
 use Rattle.rights.specs.Registers.{withRegister}
 use Rattle.record.specs.declared.Front.{Front}
@@ -29,13 +29,14 @@ pub data Answer : Type 0 where
 abbrev pub error : ℕ → Answer
 error c = verdict (Error c)
 
--- what is written, one after the other: a block, a register, the AFI or DSFID byte, a lock bit, a whole password
+-- what is written, one after the other: a block, a register, the AFI or DSFID byte, a lock bit, a whole password. Of the two blocks that
+-- have a lock bit, `blockLock true` is block 1 and `blockLock false` block 0
 pub data Unit : Type 0 where
   block : ℕ → List ℕ → Unit
   register : ℕ → ℕ → Unit
   afi : ℕ → Unit
   dsfid : ℕ → Unit
-  blockLock : ℕ → Unit
+  blockLock : Bool → Unit
   afiLock : Unit
   dsfidLock : Unit
   password : ℕ → ℕ → Unit
@@ -77,18 +78,17 @@ listing v m limit b (suc n) status =
 
 -- ---- what units do
 
-abbrev pub withBlockLock : Vault → ℕ → Vault
-withBlockLock v b =
-    if eqb b 0
-    then record { areas = v .areas; lock0 = true; lock1 = v .lock1; lockcfg = v .lockcfg; keys = v .keys }
-    else record { areas = v .areas; lock0 = v .lock0; lock1 = true; lockcfg = v .lockcfg; keys = v .keys }
+-- block 1 locked, or block 0
+abbrev pub withBlockLock : Vault → Bool → Vault
+withBlockLock v true = record { areas = v .areas; lock0 = v .lock0; lock1 = true; lockcfg = v .lockcfg; keys = v .keys }
+withBlockLock v false = record { areas = v .areas; lock0 = true; lock1 = v .lock1; lockcfg = v .lockcfg; keys = v .keys }
 
 abbrev pub unitOnTag : Unit → Tag → Tag
 unitOnTag (block b bytes) t = t
 unitOnTag (register address x) t = withVault t (withRegister (t .vault) address x)
 unitOnTag (afi x) t = withFront t (withAfi (t .front) x)
 unitOnTag (dsfid x) t = withFront t (withDsfid (t .front) x)
-unitOnTag (blockLock b) t = withVault t (withBlockLock (t .vault) b)
+unitOnTag (blockLock second) t = withVault t (withBlockLock (t .vault) second)
 unitOnTag afiLock t = withFront t (withAfiLocked (t .front))
 unitOnTag dsfidLock t = withFront t (withDsfidLocked (t .front))
 unitOnTag (password n w) t = withVault t (withKeys (t .vault) (withPassword (t .vault .keys) n w))
@@ -98,7 +98,7 @@ unitOnMemory (block b bytes) m = sets m (4 * b) bytes
 unitOnMemory (register address x) m = m
 unitOnMemory (afi x) m = m
 unitOnMemory (dsfid x) m = m
-unitOnMemory (blockLock b) m = m
+unitOnMemory (blockLock second) m = m
 unitOnMemory afiLock m = m
 unitOnMemory dsfidLock m = m
 unitOnMemory (password n w) m = m
@@ -125,6 +125,6 @@ perform t m (lists limit first count status) =
     record { answer = body (listing (viewOf (t .vault)) m limit first count status); tag = t; memory = m }
 perform t m (presents n w) =
     let p = presentOf (t .vault .keys) n w in
-    record { answer = verdict (presentedVerdict (p .answer)); tag = withVault t (withKeys (t .vault) (p .keys)); memory = m }
+    record { answer = verdict (p .answer); tag = withVault t (withKeys (t .vault) (p .keys)); memory = m }
 perform t m (writes us) = record { answer = verdict Success; tag = applyToTag us t; memory = applyToMemory us m }
 perform t m closes = record { answer = silence; tag = withVault t (sessionless (t .vault)); memory = m }

@@ -89,10 +89,10 @@ fn last(p: Progress, memory: &mut [u8; 2048], room: &mut [u8; 10243], out: &mut 
 
 // After a read or write that failed nothing more is read or written.
 fn main() {
-    let start = lines::start();
     let mut memory = [0u8; 2048];
     let mut room = [0u8; 10243];
     let mut out = [0u8; 20508];
+    let start = lines::start(&mut memory);
     let c = run(start, &mut memory, &mut room, &mut out);
     if c.well {
         last(c.progress, &mut memory, &mut room, &mut out);

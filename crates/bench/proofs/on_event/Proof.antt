@@ -50,7 +50,6 @@ use Rattle.bench.specs.declared.Said.{Said}
 use Rattle.record.specs.declared.Kind.{Kind}
 use Rattle.tag.specs.Step.{eventOf}
 use Rattle.tag.specs.Host.{EventGives}
-use Rattle.bench.specs.Updates.{saidOf}
 use Rattle.record.proofs.Tag as T
 use Rattle.record.proofs.Tag.Laws as T′
 use Rattle.record.proofs.Outcome as O
@@ -81,6 +80,10 @@ stayed = (stay-ref (0 ∷ []) tt (plain (λ _. T.the-row)), (stay-dropped kindS 
 -- the contract that the proof cites
 abbrev EventC : {M : Type 1} (𝓤 : URA M) (H : Heap 𝓤) (A : Atoms 𝓤) (mem : Memory → SProp 𝓤) (run : Routine → Fun 𝓤) → Contract 𝓤
 EventC 𝓤 H A mem run = tripleOf 𝓤 H A event.signature (event.spec 𝓤 H A mem run)
+
+-- all of an outcome but the record
+abbrev saidOf : Outcome → Said
+saidOf r = record { refusal = r .refusal; length = r .length }
 
 -- the machine values of a record, and of what is said
 abbrev tagVals : Tag → List Val
@@ -163,7 +166,7 @@ module _ {M : Type 1} (𝓤 : URA M) (H : Heap 𝓤) (A : Atoms 𝓤) (W : Given
   exits r zm zr e lm lr is =
       qed W (‵ (fobs γ (T.the-row .coded .code (r .tag))) ∷ ‵ (fbor κ (Body (mem T.the-row) b o γ)) ∷ ‵ (flft κ q) ∷ Toks ∷ ‵ (finally u8 γr zr) ∷ ‵ (finally u8 γm zm) ∷ []) ∵
       suffices ! _ (ends-at 𝓤 H A on-event.ended stayed (on-event.clauses 𝓤 H A at-mem run) W y (saidVal (saidOf r)) (saidOf r) (r .tag, (tt, (tt, (zm, (zr, tt))))) (tt, (tt, (tt, (lm, (lr, tt)))))) $
-      says ! (record { said = ap saidOf (e .result); tag = ap (λ (x : Outcome). x .tag) (e .result); memory = e .memory; room = e .room }) $
+      says ! (record { number = e .number; length = e .length; tag = e .tag; memory = e .memory; room = e .room }) $
       -- [obs; the borrow; the token; the other tokens; the last room; the last memory]
       move ! (2 ∷ 3 ∷ []) $ join ! $ frame ! $ feqI ! (List Val) (vptr b o ∷ []) (vptr b o ∷ []) refl $ fjoin3 ! $
       -- [the reference; the last room; the last memory]

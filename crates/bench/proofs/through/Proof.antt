@@ -188,7 +188,7 @@ module _ {M : Type 1} (𝓤 : URA M) (H : Heap 𝓤) (A : Atoms 𝓤) (W : Given
   exits s t zm zr e lm lr is =
       qed W (Toks ∷ ‵ (finally u8 γr zr) ∷ ‵ (finally u8 γm zm) ∷ []) ∵
       suffices ! _ (ends-at 𝓤 H A through.ended stayed (through.clauses 𝓤 H A at-mem run) W y (outVal (whole-of s t)) (whole-of s t) (tt, (tt, (tt, (zm, (zr, tt))))) (tt, (tt, (tt, (lm, (lr, tt)))))) $
-      says ! (record { result = λ i. record { refusal = e .said i .refusal; length = e .said i .length; tag = e .tag i }; memory = e .memory; room = e .room }) $
+      says ! (record { number = e .number; length = e .length; tag = e .tag; memory = e .memory; room = e .room }) $
       frame ! $ nothing ! $ move ! (1 ∷ 0 ∷ []) $ fjoin ! $ move ! (1 ∷ 0 ∷ []) $ fjoin ! $ nothing ! $ fjoin ! $ nothing ! $ fjoin ! $ nothing ! $ fjoin ! $ frame ! $
       owned ! O.the-row (Is O.the-row) (LL.makes O.the-type O′.the-plain 𝓤 H A) (whole-of s t) _ is $ done !
 

@@ -4,7 +4,6 @@ use mathlib.Core.Path.{_≡_, refl, sym, _∙_}
 use mathlib.Core.Bool.{true}
 use borrow.Author.Tests.{lt-ltb, le-ltb, not-false}
 use Rattle.rights.proofs.Cases.{kept}
-use Rattle.record.specs.declared.Refusal.the-variants.{None, Memory, Room, Record}
 use Rattle.tag.specs.Host.{isMemory}
 use Rattle.host.proofs.Lent.{blocks-by-end}
 use Rattle.packed.specs.Bytes.{isRecord}
@@ -37,7 +36,7 @@ returns : tie.Need-returns
 unfolding eventLeft
 returns c =
     let at = c .before .before .before .before .before .before .args in
-    event-by (eventStays Memory (at .bytes .now) (at .memory .now) (at .room .now))
+    event-by (eventStays 1 (at .bytes .now) (at .memory .now) (at .room .now))
     (rw (← c .before .before .is-memory .ensures, c .before .if1 .taken))
     (c .refused .ensures) refl refl refl
 
@@ -46,7 +45,7 @@ returns-2 : tie.Need-returns-2
 unfolding eventLeft
 returns-2 c =
     let at = c .before .before .before .before .before .before .before .args in
-    event-by (eventStays Room (at .bytes .now) (at .memory .now) (at .room .now))
+    event-by (eventStays 2 (at .bytes .now) (at .memory .now) (at .room .now))
     (rw (← c .before .before .before .is-memory .ensures, c .before .before .if1 .left, lt-ltb _ _ (c .before .if2 .taken)))
     (c .refused2 .ensures) refl refl refl
 
@@ -56,7 +55,7 @@ unfolding eventLeft
 returns-3 c =
     let at = c .before .before .before .before .before .before .before .before .before .before .before .before .args in
     let one = c .before .before in
-    event-by (eventStays Record (at .bytes .now) (at .memory .now) (at .room .now))
+    event-by (eventStays 3 (at .bytes .now) (at .memory .now) (at .room .now))
     (rw (memory-lent one, le-ltb _ _ (one .before .before .before .before .if2 .left), asked one, c .before .if3 .taken))
     (c .refused3 .ensures) refl refl refl
 
@@ -66,7 +65,7 @@ unfolding eventLeft
 returns-4 c =
     let at = c .before .before .before .before .before .before .before .before .before .before .before .before .args in
     let one = c .before .before in
-    event-by (eventStays None (at .bytes .now) (at .memory .now) (at .room .now))
+    event-by (eventStays 0 (at .bytes .now) (at .memory .now) (at .room .now))
     (rw (memory-lent one, le-ltb _ _ (one .before .before .before .before .if2 .left), record-lent (c .before), lt-ltb _ _ (c .if4 .taken)))
     refl refl refl refl
 

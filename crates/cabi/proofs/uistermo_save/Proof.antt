@@ -3,7 +3,6 @@
 use mathlib.Core.Path.{_≡_, refl}
 use mathlib.Core.Bool.{true}
 use Rattle.rights.proofs.Cases.{kept}
-use Rattle.record.specs.declared.Refusal.the-variants.{Memory, Record, Image}
 use Rattle.tag.proofs.Sizes.{fitting}
 use Rattle.host.proofs.Lent.{blocks-by-end}
 use Rattle.packed.specs.Bytes.{isRecord}
@@ -16,14 +15,14 @@ use Rattle.cabi.proofs.uistermo_save.Tie as tie
 -- 4: the image
 returns : tie.Need-returns
 unfolding saveLeft
-returns c = save-by (saveStays Image (c .before .before .before .before .before .args .image .now))
+returns c = save-by (saveStays 4 (c .before .before .before .before .before .args .image .now))
     (rw (← c .before .before .is-image .ensures, c .before .if1 .taken)) (c .refused .ensures) refl
 
 -- 1: the memory
 returns-2 : tie.Need-returns-2
 unfolding saveLeft
 returns-2 c =
-    save-by (saveStays Memory (c .before .before .before .before .before .before .before .args .image .now))
+    save-by (saveStays 1 (c .before .before .before .before .before .before .before .args .image .now))
     (rw (
       ← c .before .before .before .before .is-image .ensures,
       c .before .before .before .if1 .left,
@@ -41,7 +40,7 @@ returns-3 c =
     let fits = one .before .before .before .before in
     let fit = kept (fits .fits-image .ensures) (one .before .before .before .if2 .left) in
     let blocks = blocks-by-end (at .memory .now) (fitting (at .memory .now) (at .image .now) fit .0) in
-    save-by (saveStays Record (at .image .now))
+    save-by (saveStays 3 (at .image .now))
     (rw (
       ← fits .before .before .is-image .ensures,
       fits .before .if1 .left,

@@ -3,11 +3,10 @@
 use mathlib.Core.Path.{refl}
 use lib.ListN.{drop}
 use Rattle.rights.proofs.Cases.{kept}
-use Rattle.record.specs.declared.Refusal.the-variants.{None, Memory, Image, Header}
 use Rattle.tag.specs.Image.{tagIn}
-use Rattle.tag.specs.Host.{outcome, loadRefused, loadGiven}
+use Rattle.tag.specs.Host.{loadRefused, loadGiven}
 use Rattle.tag.proofs.Sizes.{fitting}
-use Rattle.host.proofs.Lent.{blocks-by-end, has-header, load-by}
+use Rattle.host.proofs.Lent.{blocks-by-end, has-header, returns-by, fills-by}
 use borrow.Author.Needs.{needs}
 use Rattle.host.proofs.load.Statement.{statement}
 use Rattle.host.proofs.load.Tie as tie
@@ -17,7 +16,8 @@ returns : tie.Need-returns
 unfolding loadGiven
 returns c =
     let at = c .before .before .before .before .before .before .args in
-    load-by (loadRefused Image (at .t) (at .memory .now)) (rw (← c .before .before .before .is-image .ensures, c .before .if1 .taken)) (c .refuse .ensures) refl
+    fills-by (loadRefused 4 (at .t) (at .memory .now)) (rw (← c .before .before .before .is-image .ensures, c .before .if1 .taken))
+    (returns-by (c .refuse .ensures)) refl
 
 -- an image of such a length has a header
 header-right-requires : tie.Need-header-right-requires
@@ -29,14 +29,14 @@ returns-2 : tie.Need-returns-2
 unfolding loadGiven
 returns-2 c =
     let at = c .before .before .before .before .before .before .before .before .before .args in
-    load-by (loadRefused Memory (at .t) (at .memory .now))
+    fills-by (loadRefused 1 (at .t) (at .memory .now))
     (rw (
       ← c .before .before .before .before .before .before .is-image .ensures,
       c .before .before .before .before .if1 .left,
       ← c .before .before .before .before .before .fits-image .ensures,
       c .before .if2 .taken,
     ))
-    (c .refuse2 .ensures) refl
+    (returns-by (c .refuse2 .ensures)) refl
 
 -- 5: the header
 returns-3 : tie.Need-returns-3
@@ -48,7 +48,7 @@ returns-3 c =
     let fits = header .before .before .before in
     let fit = kept (fits .fits-image .ensures) (c .before .before .if2 .left) in
     let blocks = blocks-by-end (at .memory .now) (fitting (at .memory .now) (at .image .now) fit .0) in
-    load-by (loadRefused Header (at .t) (at .memory .now))
+    fills-by (loadRefused 5 (at .t) (at .memory .now))
     (rw (
       ← fits .before .is-image .ensures,
       whole,
@@ -59,7 +59,7 @@ returns-3 c =
       ← header .header-right .ensures,
       c .before .if3 .taken,
     ))
-    (c .refuse3 .ensures) refl
+    (returns-by (c .refuse3 .ensures)) refl
 
 -- the image has 64 bytes more than the memory
 load-requires : tie.Need-load-requires
@@ -78,7 +78,7 @@ returns-4 c =
     let fit = kept (fits .fits-image .ensures) (c .before .before .before .before .before .if2 .left) in
     let blocks = blocks-by-end (at .memory .now) (fitting (at .memory .now) (at .image .now) fit .0) in
     let loaded = c .before .before .load .ensures in
-    load-by (record { result = outcome None 0 (tagIn (at .image .now)); memory = drop 64 (at .image .now) })
+    fills-by (record { number = 0; length = 0; tag = tagIn (at .image .now); memory = drop 64 (at .image .now) })
     (rw (
       ← fits .before .is-image .ensures,
       whole,
@@ -89,7 +89,7 @@ returns-4 c =
       ← header .header-right .ensures,
       c .before .before .before .before .if3 .left,
     ))
-    (rw (loaded .0)) (loaded .1)
+    (record { number = refl; length = refl; tag = loaded .0 }) (loaded .1)
 
 pub load-spec : {M : Type 1} → statement M
 load-spec =

@@ -30,18 +30,25 @@ load-requires c κs =
     let s = f .before .before .before .before .before .before in
     (digits-most (s .args .line .now) _ (c .before .before .before .before .after2 .ensures) (rw (f .form3 .given .1) at (s .pre .0)), s .pre .1)
 
+-- `FACTORY hex`: the digits are those of a UID
+factory-requires : tie.Need-factory-requires
+factory-requires c κs =
+    let f = c .before .before .before .before .before .before in
+    let s = f .before .before .before .before .before .before in
+    (digits-most (s .args .line .now) _ (c .before .before .before .before .after3 .ensures) (rw (f .form4 .given .1) at (s .pre .0)), s .pre .1)
+
 -- `PUT at hex`: the place lies in the memory
 sub-take : tie.Need-sub-take
 sub-take c =
     let f = c .before .before in
-    let h = rw (f .form4 .given .1) at (f .before .before .before .before .before .before .pre .0) in
+    let h = rw (f .form5 .given .1) at (f .before .before .before .before .before .before .pre .0) in
     h .0
 
 -- the same, of what is lent
 part-take-start : tie.Need-part-take-start
 part-take-start c =
     let f = c .before .before in
-    let h = rw (f .form4 .given .1) at (f .before .before .before .before .before .before .pre .0) in
+    let h = rw (f .form5 .given .1) at (f .before .before .before .before .before .before .pre .0) in
     h .0
 
 -- and the digits' bytes from there on
@@ -49,8 +56,8 @@ take-requires-2 : tie.Need-take-requires-2
 take-requires-2 c κs =
     let f = c .before .before .before .before in
     let s = f .before .before .before .before .before .before in
-    let h = rw (f .form4 .given .1) at (s .pre .0) in
-    let g = digits-most (s .args .line .now) _ (c .before .before .after3 .ensures) (h .1) in
+    let h = rw (f .form5 .given .1) at (s .pre .0) in
+    let g = digits-most (s .args .line .now) _ (c .before .before .after4 .ensures) (h .1) in
     (rw tail (simp length-drop g), s .pre .1 .of-out)
 
 -- an event: the digits are those of the longest frame at most
@@ -58,7 +65,7 @@ event-requires : tie.Need-event-requires
 event-requires c κs =
     let f = c .before .before .before .before .before .before in
     let s = f .before .before .before .before .before .before in
-    (digits-most (s .args .line .now) _ (c .before .before .before .before .after4 .ensures) (rw (f .form5 .given .1) at (s .pre .0)), s .pre .1)
+    (digits-most (s .args .line .now) _ (c .before .before .before .before .after5 .ensures) (rw (f .form6 .given .1) at (s .pre .0)), s .pre .1)
 
 pub act-spec : {M : Type 1} → statement M
 act-spec =
@@ -80,6 +87,9 @@ act-spec =
     load-requires
     (λ c. search needs)
     (λ c κs. search needs)
+    factory-requires
+    (λ c. search needs)
+    (λ c κs. search needs)
     sub-take
     part-take-start
     (λ c. search needs)
@@ -90,6 +100,10 @@ act-spec =
     (λ c. search needs)
     (λ c. search needs)
     (λ c κs. search needs)
+    (λ c. search needs)
+    (λ c. search needs)
+    (λ c. search needs)
+    (λ c. search needs)
     (λ c. search needs)
     (λ c. search needs)
     (λ c. search needs)

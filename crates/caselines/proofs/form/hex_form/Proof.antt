@@ -54,11 +54,29 @@ returns-4 c =
     ∙ past _ _ (t3 .before .begins-with3 .ensures) (t3 .if3 .left)
     ∙ here _ _ (t4 .before .begins-with4 .ensures) (t4 .if4 .taken))
 
--- no such form
+-- `FACTORY hex`
 returns-5 : tie.Need-returns-5
 unfolding bytesOfText hexForm
 returns-5 c =
-    let t4 = c in
+    let t5 = c .before .before in
+    let t4 = t5 .before .before .before in
+    let t3 = t4 .before .before .before in
+    let t2 = t3 .before .before .before in
+    let t1 = t2 .before .before .before in
+    (rw (c .before .after5 .ensures) at (c .factory-form .ensures)) ∙
+    sym
+    (past _ _ (t1 .before .begins-with .ensures) (t1 .if1 .left)
+    ∙ past _ _ (t2 .before .begins-with2 .ensures) (t2 .if2 .left)
+    ∙ past _ _ (t3 .before .begins-with3 .ensures) (t3 .if3 .left)
+    ∙ past _ _ (t4 .before .begins-with4 .ensures) (t4 .if4 .left)
+    ∙ here _ _ (t5 .before .begins-with5 .ensures) (t5 .if5 .taken))
+
+-- no such form
+returns-6 : tie.Need-returns-6
+unfolding bytesOfText hexForm
+returns-6 c =
+    let t5 = c in
+    let t4 = t5 .before .before .before in
     let t3 = t4 .before .before .before in
     let t2 = t3 .before .before .before in
     let t1 = t2 .before .before .before in
@@ -66,7 +84,8 @@ returns-5 c =
     (past _ _ (t1 .before .begins-with .ensures) (t1 .if1 .left)
     ∙ past _ _ (t2 .before .begins-with2 .ensures) (t2 .if2 .left)
     ∙ past _ _ (t3 .before .begins-with3 .ensures) (t3 .if3 .left)
-    ∙ past _ _ (t4 .before .begins-with4 .ensures) (t4 .if4 .left))
+    ∙ past _ _ (t4 .before .begins-with4 .ensures) (t4 .if4 .left)
+    ∙ past _ _ (t5 .before .begins-with5 .ensures) (t5 .if5 .left))
 
 pub hex-form-spec : {M : Type 1} → statement M
 hex-form-spec =
@@ -92,4 +111,9 @@ hex-form-spec =
     (λ c κs. search needs)
     (λ c κs. search needs)
     returns-4
-    returns-5)
+    (λ c. search needs)
+    (λ c κs. search needs)
+    (λ c κs. search needs)
+    (λ c κs. search needs)
+    returns-5
+    returns-6)

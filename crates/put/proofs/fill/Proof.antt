@@ -1,26 +1,25 @@
--- `caselines::lent::fill` meets its contract: as many bytes as were passed are filled, and at the end all are.
+-- `put::fill` meets its contract: as many bytes as were passed are filled, and at the end all are.
 -- Assumes nothing.
 use mathlib.Core.Path.{sym}
 use mathlib.Core.List.{List}
 use Prim.Native.Nat.{ℕ, _-_, _<_}
 use native.Mathlib.Omega.{arith}
 use lib.ListN.{length, drop, replicate, length-replicate, getD-replicate}
 use Rattle.put.proofs.Lists.{put-all}
-use Rattle.put.proofs.Written.{Written, none, byte, last}
-use Rattle.text.proofs.Pieces.{stored}
+use Rattle.put.proofs.Written.{Written, none, store, byte, last}
 use borrow.Author.Needs.{needs}
-use Rattle.caselines.proofs.lent.fill.Statement.{statement}
-use Rattle.caselines.proofs.lent.fill.Tie as tie
+use Rattle.put.proofs.fill.Statement.{statement}
+use Rattle.put.proofs.fill.Tie as tie
 
 -- the buffer when all of it is filled
 abbrev filled : List ℕ → ℕ → List ℕ
 filled s value = replicate (length s) value
 
 abbrev Inv-loop : tie.InvT-loop
-Inv-loop s₀ value i₀ s i = Written (filled s₀ value) (drop i (filled s₀ value)) s₀ s i
+Inv-loop out₀ value i₀ out i = Written (filled out₀ value) (drop i (filled out₀ value)) out₀ out i
 
 abbrev μ-loop : tie.MeasureT-loop
-μ-loop s₀ value i₀ s i = length s₀ - i
+μ-loop out₀ value i₀ out i = length out₀ - i
 
 -- nothing is filled yet
 loop-holds : tie.Need-loop-holds Inv-loop μ-loop
@@ -29,10 +28,10 @@ loop-holds c = none (simp length-replicate (omega arith))
 -- one byte more
 loop-again : tie.Need-loop-again Inv-loop μ-loop
 loop-again c =
-    let s = c .before .before .args .s .now in
-    let w = c .before .loop .inv in
-    let h : c .before .loop .i < length s = omega (arith, c .loop-test .taken, w .same) in
-    stored (sym (getD-replicate (length s) (c .before .loop .i) (c .before .before .args .value) 0 h)) (byte (simp length-replicate h) w)
+    let out = c .before .before .args .out .now in
+    let at = c .before .loop in
+    let h : at .i < length out = omega (arith, c .loop-test .taken, at .inv .same) in
+    rw (getD-replicate (length out) (at .i) (c .before .before .args .value) 0 h) at (store _ (byte (simp length-replicate h) (at .inv)))
 
 -- the buffer is as long as it was
 same-length : tie.Need-same-length Inv-loop μ-loop
