@@ -3,13 +3,14 @@
  * counts its instructions. x86-64 only.
  *
  *   measure compiler            prints the version of the compiler
- *   measure MIX TAG name        prints how many calls the mix has, and its name; MIX is a to h, TAG is 16 or 64 (Kbit), 64 alone for c
+ *   measure MIX TAG name        prints how many calls the mix has, and its name; MIX is a to i, TAG is 16 or 64 (Kbit), 64 alone for c
  *   measure MIX TAG SUBJECT N   makes the mix N times; SUBJECT is library, plain, floor or none
  *   measure MIX TAG time        prints the CPU time of an event in ns: floor, plain C, library
  *
  * Before anything is counted or timed, the library makes each call of the mix twice beside plain C, and results, record, memory, room and image
  * must be equal to the byte. The floor is the CRC of request and answer, by a table of 256 numbers, and one copy of the answer; for loading and
- * saving one copy of the image. None is only `ret`: what it costs is the loop's.
+ * saving one copy of the image; for a factory tag one filling of memory and of a header's bytes in the record. None is only `ret`: what it costs
+ * is the loop's.
  * Exit status: 0 all was done, 1 library and plain C differ or a mix does not do what it is for, 2 a wrong word.
  */
 #define _POSIX_C_SOURCE 200809L
@@ -46,8 +47,9 @@ struct lent {
 };
 static struct lent measured, beside; /* beside: what plain C makes of the same calls */
 static _Alignas(64) uint8_t source[UISTERMO_IMAGE_64K]; /* the image that is loaded */
+static const uint64_t uid = 0xE002230401D6C8F7; /* of a factory tag; the image's too */
 
-enum { LOAD = UISTERMO_REQUEST + 1, SAVE }; /* beside the kinds of events */
+enum { LOAD = UISTERMO_REQUEST + 1, SAVE, FACTORY }; /* beside the kinds of events */
 
 struct call {
     uint32_t kind;
@@ -59,11 +61,12 @@ static struct call calls[17];
 static size_t count;
 static const struct call *now; /* the call that is being made */
 
-/* Mix (a) comes first. One without a request loads and saves an image. */
+/* Mix (a) comes first. One without a request loads and saves an image, or makes a factory tag. */
 static const struct mix {
     const char *name;
     const char *request; /* hex without CRC */
     bool damaged;        /* the CRC is wrong */
+    bool factory;        /* a factory tag is made */
     int ends;            /* ends of frame after the request */
     size_t answered;     /* the length of its answers */
 } mixes[] = {
@@ -75,6 +78,7 @@ static const struct mix {
     {.name = "inventory of 16 slots, mean of 17 events", .request = "060100", .ends = 16, .answered = 12},
     {.name = "a damaged frame of 12 bytes", .request = "2220F7C8D601042302E0", .damaged = true},
     {.name = "load and save an image, mean of both"},
+    {.name = "make a factory tag", .factory = true},
 };
 enum { MIXES = sizeof mixes / sizeof *mixes };
 static const struct mix *mix;
@@ -90,6 +94,7 @@ static void die(const char *what)
 typedef __typeof__(uistermo_event) event_call;
 typedef __typeof__(uistermo_load) load_call;
 typedef __typeof__(uistermo_save) save_call;
+typedef __typeof__(uistermo_factory) factory_call;
 
 static uint64_t floor_event(uint8_t *record, uint8_t *memory, size_t memory_length, uint8_t *room, size_t room_length, uint32_t kind,
                             const uint8_t *frame, size_t frame_length)
@@ -121,10 +126,19 @@ static uint64_t floor_save(const uint8_t *record, const uint8_t *memory, size_t 
     return 0;
 }
 
+static uint64_t floor_factory(uint8_t *record, uint64_t number, uint8_t *memory, size_t memory_length)
+{
+    (void)number;
+    memset(record, 0, PLAIN_HEADER);
+    memset(memory, 0, memory_length);
+    return 0;
+}
+
 event_call none_event;
 load_call none_load;
 save_call none_save;
-__asm__(".text\nnone_event:\nnone_load:\nnone_save:\n\tret\n");
+factory_call none_factory;
+__asm__(".text\nnone_event:\nnone_load:\nnone_save:\nnone_factory:\n\tret\n");
 
 enum { FLOOR, PLAIN, LIBRARY, NONE, SUBJECTS };
 static const struct subject {
@@ -132,11 +146,12 @@ static const struct subject {
     event_call *event;
     load_call *load;
     save_call *save;
+    factory_call *factory;
 } subjects[SUBJECTS] = {
-    [FLOOR] = {"floor", floor_event, floor_load, floor_save},
-    [PLAIN] = {"plain", plain_event, plain_load, plain_save},
-    [LIBRARY] = {"library", uistermo_event, uistermo_load, uistermo_save},
-    [NONE] = {"none", none_event, none_load, none_save},
+    [FLOOR] = {"floor", floor_event, floor_load, floor_save, floor_factory},
+    [PLAIN] = {"plain", plain_event, plain_load, plain_save, plain_factory},
+    [LIBRARY] = {"library", uistermo_event, uistermo_load, uistermo_save, uistermo_factory},
+    [NONE] = {"none", none_event, none_load, none_save, none_factory},
 };
 
 static uint64_t make(const struct subject *s, struct lent *l, const struct call *c)
@@ -146,6 +161,8 @@ static uint64_t make(const struct subject *s, struct lent *l, const struct call 
         return s->load(l->record, source, size->image, l->memory, size->memory);
     if (c->kind == SAVE)
         return s->save(l->record, l->memory, size->memory, l->image, size->image);
+    if (c->kind == FACTORY)
+        return s->factory(l->record, uid, l->memory, size->memory);
     return s->event(l->record, l->memory, size->memory, l->room, sizeof l->room, c->kind, c->frame, c->length);
 }
 
@@ -178,6 +195,10 @@ static struct call *add(uint32_t kind)
 
 static void make_calls(void)
 {
+    if (mix->factory) {
+        add(FACTORY);
+        return;
+    }
     if (!mix->request) {
         add(LOAD);
         add(SAVE);
@@ -193,9 +214,20 @@ static void make_calls(void)
         add(UISTERMO_END_OF_FRAME);
 }
 
+/* No byte of record and memory is 0, so that all that a factory tag sets to 0 shows. */
+static void overwrite(struct lent *l)
+{
+    memset(l->record, 0xAA, sizeof l->record);
+    memset(l->memory, 0xAA, sizeof l->memory);
+}
+
 /* Library and plain C give and leave the same. Keeps the answer for the floor. */
 static void check_call(struct call *c)
 {
+    if (c->kind == FACTORY) {
+        overwrite(&beside);
+        overwrite(&measured);
+    }
     uint64_t plain = make(&subjects[PLAIN], &beside, c), library = make(&subjects[LIBRARY], &measured, c);
     if (plain != library || memcmp(&beside, &measured, sizeof beside) != 0)
         die("library and plain C differ");

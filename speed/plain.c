@@ -2,7 +2,7 @@
  * The tag in plain C: what one would write by hand, without proofs. plain.h says what it is for.
  * It uses the record where it lies, and trusts that the buffers of a call do not overlap and that their lengths are true.
  */
-#define _DEFAULT_SOURCE /* endian.h: le16toh, le64toh */
+#define _DEFAULT_SOURCE /* endian.h: le16toh, le64toh, htole64 */
 #include <assert.h>
 #include <endian.h>
 #include <stdbool.h>
@@ -60,6 +60,12 @@ static inline uint64_t get64(const uint8_t *p)
     uint64_t v;
     memcpy(&v, p, 8);
     return le64toh(v);
+}
+
+static inline void put64(uint8_t *p, uint64_t v)
+{
+    v = htole64(v);
+    memcpy(p, &v, 8);
 }
 
 static const uint16_t crc_table[256] = {
@@ -679,4 +685,18 @@ uint64_t plain_save(const uint8_t record[UISTERMO_RECORD], const uint8_t *memory
     memcpy(image, record, PLAIN_HEADER);
     memcpy(image + PLAIN_HEADER, memory, memory_length);
     return image_length;
+}
+
+uint64_t plain_factory(uint8_t record[UISTERMO_RECORD], uint64_t uid, uint8_t *memory, size_t memory_length)
+{
+    if (memory_length != UISTERMO_MEMORY_16K && memory_length != UISTERMO_MEMORY_64K)
+        return refuse(UISTERMO_REFUSED_MEMORY);
+
+    struct tag *t = (struct tag *)record;
+    memset(t, 0, sizeof *t);
+    t->mark = memory_length == UISTERMO_MEMORY_16K ? UISTERMO_MARK_16K : UISTERMO_MARK_64K;
+    put64(t->uid, uid);
+    t->reg[1] = t->reg[3] = t->reg[5] = last_end(t);
+    memset(memory, 0, memory_length);
+    return 0;
 }

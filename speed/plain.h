@@ -2,7 +2,7 @@
  * plain.h: the tag of uistermo.h in plain C, as one would write it by hand, without proofs.
  * It is a measure of speed, never a source of answers.
  *
- * The calls have the signatures, results, refusals, records and images of uistermo.h. There is no call for a factory tag, since none is measured.
+ * The calls have the signatures, results, refusals, records and images of uistermo.h.
  */
 #ifndef PLAIN_H
 #define PLAIN_H
@@ -19,6 +19,8 @@ uint64_t plain_load(uint8_t record[UISTERMO_RECORD], const uint8_t *image, size_
 
 uint64_t plain_save(const uint8_t record[UISTERMO_RECORD], const uint8_t *memory, size_t memory_length, uint8_t *image,
                     size_t image_length);
+
+uint64_t plain_factory(uint8_t record[UISTERMO_RECORD], uint64_t uid, uint8_t *memory, size_t memory_length);
 
 /* The CRC of ISO/IEC 15693; it travels low byte first. */
 uint16_t plain_crc(const uint8_t *bytes, size_t n);
