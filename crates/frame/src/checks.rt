@@ -18,7 +18,8 @@ use tag::Entry;
 use tag::OptionRule;
 ghost use mathlib.Core.Path.{_≡_};
 ghost use Prim.Native.Nat.{_≤_};
-ghost use Rattle.tag.specs.Frame.{codeOf, endOf, fieldsAt, check2, check3, check4, check5, otherUid, check6, selectOfAnother, unlisted, check7, check8, addressedOnly, check9, takesNone, check10};
+ghost use Rattle.tag.specs.Frame.{codeOf, endOf, fieldsAt, otherUid, selectOfAnother, unlisted, addressedOnly, takesNone};
+ghost use Rattle.tag.specs.Frame.{check2, check3, check4, check5, check6, check7, check8, check9, check10};
 ghost use Rattle.tag.specs.Table.{entryOf};
 
 // "Under 4 bytes, or wrong CRC: silence."

@@ -61,7 +61,8 @@ fn cut(length: usize) -> usize
 // The event of a line. Its 129 bytes at most are 64 of a frame, and two for the CRC.
 fn happen(tag: Tag, kind: Kind, line: &[u8], memory: &mut [u8], room: &mut [u8]) -> Outcome
     requires { ⌜ length (now line) ≤ 129 ⌝ }
-    ensures { λ r. ⌜ EventGives tag (eventIn kind (now (line .entry))) (now (memory .entry)) (now (room .entry)) (now (memory .exit)) (now (room .exit)) r ⌝ }
+    ensures { λ r. ⌜ EventGives tag (eventIn kind (now (line .entry))) (now (memory .entry)) (now (room .entry))
+        (now (memory .exit)) (now (room .exit)) r ⌝ }
 {
     let mut frame = [0u8; 66];
     let n = form::put_frame(line, &mut frame);
@@ -71,7 +72,8 @@ fn happen(tag: Tag, kind: Kind, line: &[u8], memory: &mut [u8], room: &mut [u8])
 // The output line of a line, after which the tag is as given.
 fn say(p: Progress, tag: Tag, mark: u8, answer: &[u8], out: &mut [u8]) -> Fed
     requires { ⌜ (length (now answer) ≤ 10243) × (20508 ≤ length (now out)) ⌝ }
-    ensures { λ r. ⌜ (r .progress ≡ afterLine p tag) × Put (textOf (p .number) mark (now (answer .entry))) (now (out .entry)) (now (out .exit)) (r .length) ⌝ }
+    ensures { λ r. ⌜ (r .progress ≡ afterLine p tag)
+        × Put (textOf (p .number) mark (now (answer .entry))) (now (out .entry)) (now (out .exit)) (r .length) ⌝ }
 {
     let length = output::put_line(p.number, mark, answer, out);
     let number = next_number(p.number);

@@ -25,7 +25,8 @@ ghost use lib.ListN.{length, getD};
 ghost use Rattle.record.specs.declared.Held.the-variants.{Answer};
 ghost use Rattle.tag.specs.Rules.{offRule, togetherRule};
 ghost use Rattle.tag.specs.Image.{tagIn};
-ghost use Rattle.packed.specs.Bytes.{recordLength, stateIn, sessionIn, roundIn, heldIn, frontIn, vaultIn, recordIn, lastingRule, recordRule, stateByte, sessionByte, openByte, slotByte, maskByte, heldByte, codeByte, passingOf, recordOf};
+ghost use Rattle.packed.specs.Bytes.{recordLength, stateIn, sessionIn, roundIn, heldIn, frontIn, vaultIn, recordIn, lastingRule, recordRule};
+ghost use Rattle.packed.specs.Bytes.{stateByte, sessionByte, openByte, slotByte, maskByte, heldByte, codeByte, passingOf, recordOf};
 ghost use Rattle.packed.specs.Parts.{valuePart, roundPart, heldPart, passingPart, PassingLeft};
 
 // How many bytes a record has: `recordLength` of the definition, UISTERMO_RECORD of the header.

@@ -7,7 +7,8 @@ use rights::Vault;
 use rights::Verdict;
 ghost use mathlib.Core.Path.{_≡_};
 ghost use Rattle.record.specs.Tests.{isReady, isQuiet, isSelected, noRound, noneHeld};
-ghost use Rattle.record.specs.Update.{withState, withRound, withHeld, withAfi, withDsfid, withAfiLocked, withDsfidLocked, withFront, withVault, passingCleared, sessionless};
+ghost use Rattle.record.specs.Update.{withState, withRound, withHeld, withAfi, withDsfid, withAfiLocked, withDsfidLocked};
+ghost use Rattle.record.specs.Update.{withFront, withVault, passingCleared, sessionless};
 
 pub enum State {
     Ready,

@@ -85,7 +85,8 @@ fn field_on(t: Tag) -> Tag
 pub fn step(t: Tag, kind: Kind, frame: &[u8], memory: &mut [u8], room: &mut [u8]) -> Said
     requires { ⌜ isMemory (now memory) ≡ true ⌝ }
     requires { ⌜ 10243 ≤ length (now room) ⌝ }
-    ensures { λ s. ⌜ Gives (step t (now (memory .entry)) (eventOf kind (now (frame .entry)))) (now (room .entry)) (now (memory .exit)) (now (room .exit)) s ⌝ }
+    ensures { λ s. ⌜ Gives (step t (now (memory .entry)) (eventOf kind (now (frame .entry)))) (now (room .entry))
+        (now (memory .exit)) (now (room .exit)) s ⌝ }
 {
     let f = t.front;
     match kind {

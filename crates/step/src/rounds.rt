@@ -29,7 +29,8 @@ fn in_slot(f: Front, slot: u8, mask: u8, room: &mut [u8]) -> usize
 // "Inventory goes to its own section."
 pub fn take_inventory(t: Tag, frame: &[u8], room: &mut [u8]) -> Said
     requires { ⌜ 12 ≤ length (now room) ⌝ }
-    ensures { λ s. ⌜ ((m : List ℕ) → Gives (performed t m (inventoryOf (t .front) (now (frame .entry)))) (now (room .entry)) m (now (room .exit)) s) ⌝ }
+    ensures { λ s. ⌜ ((m : List ℕ) → Gives (performed t m (inventoryOf (t .front) (now (frame .entry))))
+        (now (room .entry)) m (now (room .exit)) s) ⌝ }
 {
     let f = t.front;
     if inventory::unheard_inventory(f, frame) {
