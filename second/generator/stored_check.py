@@ -2,11 +2,10 @@
 
 import os
 
-from worked import SESSION_INPUT, SESSION_OUTPUT
 from worked.examples import faults
 
 from .bench import is_call
-from .stored_cases import answers, unreached, worked_steps
+from .stored_cases import answers, unreached, worked_session, worked_steps
 
 MOST_SHOWN = 5
 
@@ -39,20 +38,25 @@ def file_differences(name, found, expected):
 
 
 def worked_faults(stream, output):
-    """Whether the casebook cases begin with the worked examples, answered as the documents print."""
+    """Whether casebook's lines begin with the worked examples and cases, answered as the documents say."""
     lines, answered, found = stream.split(b"\n"), output.decode("ascii", "replace").split("\n"), []
     for n, step in enumerate(worked_steps()):
         if lines[n:n + 1] != [step.line] or n >= len(answered):
-            found.append(f"casebook line {n + 1} is not that of the worked example")
+            found.append(f"casebook line {n + 1} is not that of the worked example or case")
         else:
             found += [f"casebook line {n + 1}, {fault}" for fault in faults(step, answered[n])]
     return found
 
 
 def session_faults(stream, output):
-    """Whether the tagrun cases begin with the session of 01, answered as it prints."""
-    right = stream.startswith(SESSION_INPUT) and output.startswith(SESSION_OUTPUT)
-    return [] if right else ["tagrun: the first lines are not the session of document 01"]
+    """Whether tagrun's lines begin with the session of 01 and its cases, answered as it prints and says."""
+    lines, answered, found = stream.split(b"\n"), output.decode("ascii", "replace").split("\n"), []
+    for n, (line, expected) in enumerate(worked_session()):
+        if lines[n:n + 1] != [line]:
+            found.append(f"tagrun line {n + 1} is not that of document 01's session or case")
+        elif answered[n:n + 1] != [expected]:
+            found.append(f"tagrun line {n + 1}: expected {expected[:80]}, found {''.join(answered[n:n + 1])[:80]}")
+    return found
 
 
 DOCUMENT_FAULTS = {"casebook": worked_faults, "tagrun": session_faults}

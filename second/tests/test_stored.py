@@ -5,7 +5,7 @@ import tempfile
 import unittest
 
 from generator.dice import Dice
-from generator.stored_cases import tagrun_input, worked_steps
+from generator.stored_cases import tagrun_input, worked_session, worked_steps
 from generator.stored_check import check, file_differences, session_faults, worked_faults, write
 from tagmodel.casebook import Casebook
 from tagmodel.crc import crc_by_bits
@@ -43,11 +43,12 @@ class Worked(unittest.TestCase):
 
     def test_each_difference_is_noticed(self):
         record = "00" * 70 + "0100"
-        step = Step(b"EOF", "0078F0", record={70: 1}, memory="F078")
+        step = Step(b"EOF", "0078F0", record={70: 1}, memory="F078", room="1234")
         self.assertEqual(faults(step, f"0 3 0078F0 {record} F078 1234"), [])
         for answer in (f"1 3 0078F0 {record} F078 1234", f"0 4 0078F0 {record} F078 1234",
                        f"0 3 0078F1 {record} F078 1234", f"0 3 - {record} F078 1234",
-                       f"0 3 0078F0 {'00' * 72} F078 1234", f"0 3 0078F0 {record} F079 1234", "ok", "?", ""):
+                       f"0 3 0078F0 {'00' * 72} F078 1234", f"0 3 0078F0 {record} F079 1234",
+                       f"0 3 0078F0 {record} F078 1235", "ok", "?", ""):
             self.assertNotEqual(faults(step, answer), [], answer)
         self.assertEqual(faults(Step(b"MEM 1"), "ok"), [])
         self.assertNotEqual(faults(Step(b"MEM 1"), "?"), [])
@@ -68,9 +69,15 @@ class Checks(unittest.TestCase):
         self.assertEqual(len(worked_faults(b"", b"")), len(steps))
 
     def test_session(self):
-        self.assertEqual(session_faults(SESSION_INPUT + b"ON\n", SESSION_OUTPUT + b"7 -\n"), [])
-        self.assertNotEqual(session_faults(SESSION_INPUT, SESSION_OUTPUT.replace(b"78F0", b"78F1")), [])
-        self.assertNotEqual(session_faults(b"ON\n", b"1 -\n"), [])
+        pairs = worked_session()
+        stream = b"".join(line + b"\n" for line, _ in pairs)
+        output = "".join(answer + "\n" for _, answer in pairs).encode("ascii")
+        self.assertTrue(stream.startswith(SESSION_INPUT) and output.startswith(SESSION_OUTPUT))
+        self.assertEqual(session_faults(stream + b"ON", output + b"%d -\n" % (len(pairs) + 1)), [])
+        self.assertEqual(session_faults(stream, output.replace(b"6 0078F0\n", b"6 0078F1\n", 1)),
+                         ["tagrun line 6: expected 6 0078F0, found 6 0078F1"])
+        self.assertEqual(len(session_faults(b"ON\n", b"1 -\n")), len(pairs) - 1)
+        self.assertEqual(len(session_faults(stream, b"")), len(pairs))
 
     def test_lines_of_a_file(self):
         self.assertEqual(file_differences("f", b"a\nb\n", b"a\nb\n"), [])
@@ -105,3 +112,5 @@ class Program(unittest.TestCase):
         code, output = run_program("stored", b"", "--examples")
         self.assertEqual(code, 0)
         self.assertTrue(output.startswith(b"lines 1 to 7: 01, Bench cases\n"))
+        self.assertIn(b": case check-2-under-4\n", output)
+        self.assertIn(b"\ntagrun lines 7 to 11: case tagrun-16-kbit\n", output)

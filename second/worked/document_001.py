@@ -5,11 +5,9 @@ The reader prints an answer between its own 80h and length and a last 00h: in
 001 is about other parts. Where the base of 01 has another rule, the note says so.
 """
 
-from .examples import (CONFIGURATION_SESSION, DONE, SESSION, SILENCE, SMALL, UID, Example, error, event, frame,
-                       in_field, lent, line, request)
+from .examples import (CONFIGURATION_SESSION, DONE, INVENTORY_ANSWER, NOT_LISTED, NO_INFORMATION, SESSION, SILENCE,
+                       SMALL, UID, Example, configured, event, frame, in_field, lent, line, request)
 
-INVENTORY_ANSWER = "0000F0C8D601042302E064A3"
-NOT_LISTED = error(0x02)
 SESSION_0 = {SESSION: CONFIGURATION_SESSION}
 
 
@@ -26,7 +24,7 @@ EXAMPLES = (
     Example(
         "001, 2.3.5, 1, WRITE PASSWORD", "02B1020012345678 .. 80040078F000",
         "01's passwords have eight bytes: the frame as printed has a wrong length, with four more bytes it is answered",
-        in_field(SMALL, session=CONFIGURATION_SESSION)
+        configured()
         + (request("02B1020012345678", SILENCE), request("02B102001234567800000000", DONE, record={
             19: 0x12, 20: 0x34, 21: 0x56, 22: 0x78, 23: 0, 26: 0, SESSION: CONFIGURATION_SESSION}))),
     Example(
@@ -34,7 +32,7 @@ EXAMPLES = (
         "as above; the value of eight bytes, unmasked, is right: its session opens",
         in_field(SMALL) + (
             request("22B302" + UID + "00E25FA613", SILENCE, record={SESSION: 0}),
-            request("22B302" + UID + "00E25FA61300000000", error(0x0F), record={SESSION: 0}),
+            request("22B302" + UID + "00E25FA61300000000", NO_INFORMATION, record={SESSION: 0}),
             request("22B302" + UID + "000000000000000000", DONE, record=SESSION_0),
             request("22B102" + UID + "00E25FA61300000000", DONE, record=SESSION_0),
             request("22B302" + UID + "00E25FA61300000000", DONE, record=SESSION_0))),

@@ -1,11 +1,9 @@
 """Document 003 (DS14321): block addresses, area ends, the example of area setting, counts, register addresses."""
 
-from .examples import (CONFIGURATION_SESSION, DONE, LARGE, SILENCE, SMALL, Example, error, event, framed, in_field,
-                       lent, line, numbered, request)
+from .examples import (CLOSED, CONFIGURATION_SESSION, DONE, LARGE, NOT_AVAILABLE, NOT_PROGRAMMED, NOT_READ, SILENCE,
+                       SMALL, Example, configured, event, framed, in_field, lent, line, numbered, request)
 
-NOT_AVAILABLE, NOT_PROGRAMMED = error(0x10), error(0x13)
 PRESENT_FACTORY_PASSWORD_0 = request("02B302000000000000000000", DONE)
-NEVER_WRITABLE = 0x0C  # RFAiSS: protection 11, no password; in areas 2 to 4 never readable either
 ALL_STATUS = "023C0000FF07"
 
 
@@ -45,7 +43,7 @@ EXAMPLES = (
     Example(
         "003, 4.2.1, table 2, page 7", "ST25TV16KC 01FFh 3Fh ST25TV64KC 07FFh FFh",
         "the last block and the greatest end of each tag, and the next beyond them",
-        in_field(SMALL, session=CONFIGURATION_SESSION) + (
+        configured() + (
             request("0230FF01", framed("0000000000")), request("02300002", NOT_AVAILABLE),
             write_register(0x05, 0x40, NOT_PROGRAMMED), write_register(0x05, 0x3F))
         + in_field(LARGE, session=CONFIGURATION_SESSION) + (
@@ -54,9 +52,9 @@ EXAMPLES = (
     Example(
         "003, 4.2.1, page 7", "ENDA1 = 0 means that the size of Area 1 is 8 blocks (32 bytes).",
         "Area 2 is made unreadable, so that a read of all one-byte blocks stops at the border",
-        in_field(SMALL, ends=(0, 63, 63), protections=(0, NEVER_WRITABLE, 0, 0)) + (
+        in_field(SMALL, ends=(0, 63, 63), protections=(0, CLOSED, 0, 0)) + (
             line("PUT 0 " + numbered(0, 10)), request("022300FF", framed("00" + numbered(0, 8))),
-            request("022007", framed("00" + numbered(7, 1))), request("022008", error(0x15)))),
+            request("022007", framed("00" + numbered(7, 1))), request("022008", NOT_READ))),
     Example(
         "003, 4.2.1, pages 8 and 9; 5.2.2, page 20", "1. Initial state .. ENDA1 = 10h .. Area 1 from block 0000h to 0087h "
         "(136 blocks) .. Area 2 from block 0088h to 07FFh (1912 blocks) .. 2. .. Set ENDA1 = 3Fh .. Set ENDA2 = 5Fh .. Set "
@@ -67,7 +65,7 @@ EXAMPLES = (
         "for a refused end, 01 decides: 13h",
         lent(LARGE) + (
             event("ON"), PRESENT_FACTORY_PASSWORD_0,
-            write_register(0x04, NEVER_WRITABLE), write_register(0x08, NEVER_WRITABLE),
+            write_register(0x04, CLOSED), write_register(0x08, CLOSED),
             write_register(0x05, 0x10), status_of_areas(136, 1912),
             write_register(0x09, 0xFF, NOT_PROGRAMMED),
             write_register(0x05, 0x3F), write_register(0x07, 0x5F), write_register(0x09, 0xBF),

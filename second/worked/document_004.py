@@ -1,23 +1,22 @@
 """Document 004 (AN4911): the end of Area 1 for a container, and containers as block contents."""
 
-from .examples import (CONFIGURATION_SESSION, DONE, LARGE, SMALL, Example, error, framed, in_field, line, numbered,
-                       request)
+from .examples import (CLOSED, CONFIGURATION_SESSION, DONE, LARGE, LOCKED_ALREADY, NOT_AVAILABLE, NOT_READ, NOT_WRITTEN,
+                       SMALL, Example, framed, in_field, line, numbered, request)
 
 CONTAINER = "E240000100000020"
-HIDDEN = 0x0C  # RFAiSS: protection 11, no password
 EIGHT_BYTES = ("E240000000000400", "E240000000000020", "E240000100000400", "E2400001000003FF",  # 4.2
                "E240000100000100", "E2400001000000C0")  # 4.3
 
 
 def area_end(size):
     """ENDA1 = 0Ch, and the blocks beside the border that it makes; Area 2 is hidden."""
-    return in_field(size, protections=(0, HIDDEN, 0, 0), session=CONFIGURATION_SESSION) + (
+    return in_field(size, protections=(0, CLOSED, 0, 0), session=CONFIGURATION_SESSION) + (
         line("PUT 0 " + numbered(0, 112)),
         request("02240001" + CONTAINER, DONE),
         request("02A102050C", DONE), request("02A00205", framed("000C")),
         request("02230001", framed("00" + CONTAINER)),
         request("0223421F", framed("00" + numbered(66, 32))),
-        request("022067", framed("00" + numbered(103, 1))), request("022068", error(0x15)),
+        request("022067", framed("00" + numbered(103, 1))), request("022068", NOT_READ),
         request("02236603", framed("00" + numbered(102, 2))),
         request("022C6603", framed("0000000101")))
 
@@ -48,8 +47,8 @@ EXAMPLES = (
         "004, 3.5, page 6", "only blocks 0 and 1 (CC) can be locked using this command",
         "Lock Block and Extended Lock Block; a locked block is not written, and its status is 01h",
         in_field(SMALL) + (
-            request("022200", DONE), request("02320100", DONE), request("022202", error(0x10)),
-            request("02320200", error(0x10)), request("022200", error(0x11)), request("02320100", error(0x11)),
-            request("02240001" + CONTAINER, error(0x12)),
+            request("022200", DONE), request("02320100", DONE), request("022202", NOT_AVAILABLE),
+            request("02320200", NOT_AVAILABLE), request("022200", LOCKED_ALREADY), request("02320100", LOCKED_ALREADY),
+            request("02240001" + CONTAINER, NOT_WRITTEN),
             request("42230002", framed("00" + "0100000000" * 2 + "0000000000")))),
 )

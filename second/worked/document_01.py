@@ -1,15 +1,12 @@
 """Document 01: its session, its bench case that is not starred, its longest answer, and its factory tag."""
 
-from .document_001 import INVENTORY_ANSWER
-from .examples import (DONE, FIELD, HELD, LARGE, SILENCE, SMALL, UID, Example, Step, event, framed, image_text,
-                       in_field, line, record_text, request, shown_crc)
+from .examples import (BYTES, DONE, FIELD, HELD, INVENTORY_ANSWER, LARGE, NO_RECORD, SILENCE, SMALL, UID, Example,
+                       Step, event, framed, image_text, in_field, line, record_text, request, shown_crc)
 
 # 'Input:' and 'Whole output:' of the session program.
 SESSION_INPUT = b"ON\n260100\n022000\n02300002\n02B302010000000000000001\n02B302000000000000000000\n"
 SESSION_OUTPUT = b"1 -\n2 0000F0C8D601042302E064A3\n3 000000000077CF\n4 01101E06\n5 010F68EE\n6 0078F0\n"
 
-BYTES = "A1A2A3A4"
-NO_RECORD = "FF" * 72
 HELD_SUCCESS = {HELD: 1}
 NOTHING_HELD = {HELD: 0}
 

@@ -7,10 +7,22 @@ a document prints is given whole; to the others `framed` adds the CRC of 01.
 from typing import Mapping, NamedTuple, Optional, Tuple
 
 UID = "F0C8D601042302E0"  # 001: E002230401D6C8F0, lowest byte first
+OTHER_UID = "F1C8D601042302E0"
+ZEROS = "00" * 2048  # a fresh memory of the smaller tag
+BYTES, PASSWORD, ZERO_PASSWORD = "A1A2A3A4", "0102030405060708", "00" * 8
+WRITTEN = BYTES + ZEROS[8:]  # that memory with the bytes in block 0
+NO_RECORD = "FF" * 72
 DONE = "0078F0"  # 001 and 01: success, CRC 78 F0
+INVENTORY_ANSWER = "0000F0C8D601042302E064A3"  # 001 and 01
 SILENCE = ""
-FIELD, SESSION, HELD = 64, 66, 70  # places in the record's 72 bytes
-CONFIGURATION_SESSION = 1
+AFI, DSFID, LOCKS, PASSWORD_1 = 9, 10, 11, range(27, 35)  # places in the record's 72 bytes
+FIELD, STATE, SESSION, ROUND, SLOT, MASK_LENGTH, HELD, HELD_CODE = range(64, 72)
+READY, QUIET, SELECTED = 0, 1, 2
+NO_SESSION, CONFIGURATION_SESSION, SESSION_1, SESSION_2, SESSION_3 = 0, 1, 2, 3, 4  # none, or of password 0 to 3
+NOTHING_PASSING = dict.fromkeys(range(64, 72), 0)
+LOCK_CFG = 0x10  # bit 4 of the locks
+CLOSED = 0x0C  # RFAiSS: protection 11, no password; never writable, and in Areas 2 to 4 never readable
+RUNNING = {ROUND: 1, SLOT: 7, MASK_LENGTH: 8}  # a round; after F0h the slot of the UID is 8h, the next one
 
 
 class Size(NamedTuple):
@@ -27,7 +39,8 @@ SMALL, LARGE = Size(2048, 1, 63), Size(8192, 2, 255)
 class Step(NamedTuple):
     """A line and what its answer must say: `ok` if `answer` is None, else a call's answer in hex.
 
-    `record` names bytes of the 72 by their place, `memory` the CRC of the memory, high byte first.
+    `record` names bytes of the 72 by their place; `memory` and `room` are the CRC of their bytes, high byte first
+    (for SAVE the image stands in place of the room).
     """
 
     line: bytes
@@ -35,6 +48,7 @@ class Step(NamedTuple):
     number: int = 0
     record: Mapping[int, int] = {}
     memory: Optional[str] = None
+    room: Optional[str] = None
 
 
 class Example(NamedTuple):
@@ -44,6 +58,26 @@ class Example(NamedTuple):
     words: str
     note: str
     steps: Tuple[Step, ...]
+
+
+class Case(NamedTuple):
+    """A ruling sentence of 01 tried alone: the name that docs/TRACE.md cites, 01's words (`..` where some are left
+    out), what the lines would answer were the words read otherwise, and the lines with their answers."""
+
+    name: str
+    words: str
+    otherwise: str
+    steps: Tuple[Step, ...]
+
+
+class SessionCase(NamedTuple):
+    """The same for `tagrun`: lines that follow 01's session, each with what its output has after number and space."""
+
+    name: str
+    words: str
+    otherwise: str
+    lines: Tuple[bytes, ...]
+    outputs: Tuple[str, ...]
 
 
 def crc_text(text):
@@ -72,6 +106,11 @@ def framed(text):
 def error(code):
     """'an error is 01h, code; CRC follows'."""
     return framed(f"01{code:02X}")
+
+
+# The nine error codes of 01.
+(NOT_LISTED, OPTION_REFUSED, NO_INFORMATION, NOT_AVAILABLE, LOCKED_ALREADY, NOT_WRITTEN, NOT_PROGRAMMED, NOT_LOCKED,
+ NOT_READ) = map(error, (0x02, 0x03, 0x0F, 0x10, 0x11, 0x12, 0x13, 0x14, 0x15))
 
 
 def line(text):
@@ -117,14 +156,48 @@ def in_field(size, ends=None, protections=(0, 0, 0, 0), locks=0, session=0):
     return lent(size, ends, protections, locks, {FIELD: 1, SESSION: session})
 
 
+def configured(ends=None, size=SMALL, locks=0):
+    """A tag whose configuration session is open."""
+    return in_field(size, ends, locks=locks, session=CONFIGURATION_SESSION)
+
+
+def standing(size, passing):
+    """The same with the field on and these passing parts, by place."""
+    return lent(size, changes={FIELD: 1, **passing})
+
+
 def numbered(first, count):
     """Contents of blocks that hold their own number, high byte first."""
     return "".join(f"{block:08X}" for block in range(first, first + count))
 
 
-def image_text(record, memory):
+FACTORY = record_text(SMALL)
+ZERO_BLOCK = framed("0000000000")  # a block of a factory tag as it is read
+PASSWORDS = tuple(bytes(range(start, start + 8)).hex().upper() for start in (0x10, 0x20, 0x30, 0x40))
+
+# Every lasting part is set, no two of them alike; the field is off.
+LASTING = record_text(SMALL, (0x11, 0x12, 0x13), (4, 5, 6, 7), 0x1F,
+                      {AFI: 0x35, DSFID: 0x5A, **dict(enumerate(bytes.fromhex("".join(PASSWORDS)), 19))})
+
+
+def image_text(record=FACTORY, memory=ZEROS):
     """An image: the record's first 64 bytes, then the memory."""
     return record[:128] + memory
+
+
+def load(image, number=0, **facts):
+    """LOAD of an image in hex."""
+    return Step(b"LOAD " + image.encode("ascii"), SILENCE, number, **facts)
+
+
+def save(length, answer=SILENCE, **facts):
+    """SAVE into an image of so many bytes."""
+    return Step(f"SAVE {length}".encode("ascii"), answer, **facts)
+
+
+def places(record):
+    """All bytes of a record in hex, by place."""
+    return dict(enumerate(bytes.fromhex(record)))
 
 
 def faults(step, answer):
@@ -134,9 +207,10 @@ def faults(step, answer):
     parts = answer.split(" ")
     if len(parts) != 6:
         return [f"expected the answer of a call: {answer[:80]}"]
-    number, length, shown, record, memory, _ = parts
+    number, length, shown, record, memory, room = parts
     expected = {"number": (str(step.number), number), "length": (str(len(step.answer) // 2), length),
-                "answer": (step.answer or "-", shown), "memory": (step.memory or memory, memory)}
+                "answer": (step.answer or "-", shown), "memory": (step.memory or memory, memory),
+                "room": (step.room or room, room)}
     for place, value in step.record.items():
         expected[f"record byte {place}"] = (f"{value:02X}", record[2 * place:2 * place + 2])
     return [f"{name}: expected {wanted[:80]}, found {found[:80]}"
