@@ -1,4 +1,4 @@
-"""What a source file declares, name by name, for tools/landing: antt (definitions, laws, proofs) and Rattle (code)."""
+"""What a source file declares, name by name, for tools/landing and tools/promises: antt (definitions, laws, proofs) and Rattle (code)."""
 
 import collections
 import re
@@ -22,7 +22,8 @@ Declared = collections.namedtuple("Declared", "head body reads")
 
 
 class Source:
-    """A file: for each name the text of its head and of its body, what `use` lines bring, and the lines that could not be placed."""
+    """A file: for each name the text of its head and of its body, the fields or cases of a type, what `use` lines bring, and the lines that
+    could not be placed."""
 
     def __init__(self, source, quoted):
         def blotted(ink):
@@ -31,6 +32,7 @@ class Source:
         self.layout = re.compile(rf"(?P<quoted>{quoted})|(?P<inside>{INSIDE[quoted]})|\s+", re.S)
         self.heads, self.bodies = collections.defaultdict(str), collections.defaultdict(str)
         self.uses, self.faults = {}, []
+        self.members = collections.defaultdict(list)
 
     def said(self, start, end):
         """What stands between two places, without comments and layout."""
@@ -109,6 +111,7 @@ class Antt(Source):
                 context += said
             elif first in ("data", "record", "ruleset") and len(words) > 1 and sign:
                 self.heads[words[1]] += context + said
+                self.members[words[1]] += self.inside(section.end(), stop) if section else []
             elif sign == ":":
                 current = words[-1]
                 for name in words:
@@ -116,6 +119,10 @@ class Antt(Source):
                 self.unfolds |= set(words) if not self.laws or {"abbrev", "unfoldable"} & (outer | marks) else set()
             elif first != "mod":
                 self.clause(at, said, current, words if sign else [current] if first == "unfolding" else [])
+
+    def inside(self, start, end):
+        """The names that the body of a record or of data declares."""
+        return [name for at, stop in self.items(start, end) for _, words, sign in [self.left(at, stop)] if sign == ":" for name in words]
 
     def clause(self, at, said, current, words):
         """A clause or an `unfolding` line, of the current name, which may be an operator among its arguments, or of the first one."""
@@ -171,3 +178,5 @@ class Code(Source):
             self.functions.add(name)
         elif word != "mod":
             self.heads[name] += context + self.said(at, stop)
+            if word in ("struct", "enum"):
+                self.members[name] += re.findall(r"[{,]\s*(?:pub )?(\w+)", self.text[body:stop])

@@ -72,10 +72,10 @@ pub fn read_blocks(
         }
         let block = first as usize + n;
         if block >= limit {
-            break n;
+            break n; // "outside"
         }
         if !rights::blocks::readable(v, block) {
-            break n;
+            break n; // "not readable"
         }
         put_block(v, mem, block, status, &mut out[size * n..]);
         n += 1;

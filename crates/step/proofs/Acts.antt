@@ -3,6 +3,7 @@
 use Prim.Native.Nat.{ℕ}
 use mathlib.Core.Bool.{Bool, true, false, _&&_}
 use mathlib.Core.Path.{_≡_, refl, sym, ap, subst}
+use native.Mathlib.Omega.{arith}
 use mathlib.Core.List.{List, [], _∷_}
 use Rattle.put.specs.If.{if_then_else_}
 use Rattle.put.specs.Put.{Put}
@@ -76,6 +77,18 @@ pub blocks-written : (hold : Bool) (t : Tag) (first n : ℕ) (bytes m m′ : Lis
     → Gives (concluded hold (perform t m (writes (blockUnits first n bytes)))) x m′ x′ r
 unfolding perform
 blocks-written hold t first n bytes m m′ e d = rw (blocks-leave first n bytes t, ← e) (d m′)
+
+-- a verdict that is granted is success
+pub granted-success : (v : Verdict) → afterVerdict v false true ≡ true → v ≡ Success
+granted-success Success h = refl
+granted-success (Error c) h = let z : _≡_ {A = ℕ} 0 1 = cc in absurd (omega arith)
+
+-- what is not granted is answered, and nothing is done
+pub refused : (hold : Bool) (t : Tag) (v : Verdict) (us : List Unit) (m : List ℕ) {x x′ : List ℕ} {r : Said} → afterVerdict v false true ≡ false
+    → Does hold t (says (verdict v)) x x′ r → Gives (concluded hold (perform t m (granted v (writes us)))) x m x′ r
+unfolding perform
+refused hold t Success us m h d = let z : _≡_ {A = ℕ} 0 1 = cc in absurd (omega arith)
+refused hold t (Error c) us m h d = d m
 
 -- a request by its command
 request-is : (f : Front) (v : View) (blocks : ℕ) (e : Entry) (option : Bool) (fields : List ℕ) {c : Command} → e .command ≡ c

@@ -16,11 +16,12 @@ use tag::Command;
 use tag::Entry;
 use tag::OptionRule;
 ghost use mathlib.Core.Path.{_≡_};
-ghost use mathlib.Core.Bool.{true, _&&_};
+ghost use mathlib.Core.Bool.{true, false, _&&_};
 ghost use mathlib.Core.List.{[], _∷_};
 ghost use Prim.Native.Nat.{_+_, _*_, _≤_};
 ghost use lib.ListN.{length};
 ghost use Rattle.put.specs.Put.{Put};
+ghost use Rattle.rights.specs.Verdict.{afterVerdict};
 ghost use Rattle.rights.specs.Vault.{viewOf};
 ghost use Rattle.rights.specs.Passwords.{changeVerdict};
 ghost use Rattle.rights.specs.Registers.{registerAt, registerVerdict};
@@ -238,6 +239,16 @@ fn status(t: Tag, e: Entry, hold: bool, fields: &[u8], blocks: usize, room: &mut
     }
 }
 
+// Whether a verdict is success.
+fn is_granted(v: Verdict) -> bool
+    ensures { λ r. ⌜ r ≡ afterVerdict v false true ⌝ }
+{
+    match v {
+        Verdict::Success => true,
+        Verdict::Error(_) => false,
+    }
+}
+
 // "Writes 21h, 31h .. 24h, 34h": "All or none is written."
 fn write(t: Tag, e: Entry, hold: bool, fields: &[u8], memory: &mut [u8], room: &mut [u8]) -> Said
     requires { ⌜ headOf e + 4 * (moreOf e (now fields) + 1) ≤ length (now fields) ⌝ }
@@ -251,14 +262,12 @@ fn write(t: Tag, e: Entry, hold: bool, fields: &[u8], memory: &mut [u8], room: &
     let first = table::first_block(e, fields);
     let more = table::more_blocks(e, fields);
     let verdict = blocks::write_verdict(rights::seen(v), limit, first, more);
-    match verdict {
-        Verdict::Success => {
-            let start = table::head(e);
-            blocks::write_blocks(memory, first, more, &fields[start..]);
-            settle(hold, verdict, t, room)
-        }
-        Verdict::Error(_) => settle(hold, verdict, t, room),
+    if !is_granted(verdict) {
+        return settle(hold, verdict, t, room);
     }
+    let start = table::head(e);
+    blocks::write_blocks(memory, first, more, &fields[start..]);
+    settle(hold, verdict, t, room)
 }
 
 // "Option_flag on a write-like command .. holds the answer"

@@ -5,6 +5,7 @@ pub mod Codes
 pub mod Live
 pub mod Rows
 pub mod Came
+pub mod FirstMatch
 pub mod Acts
 pub mod Sound
 pub mod Held

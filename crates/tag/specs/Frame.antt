@@ -83,7 +83,8 @@ check6 t f =
     if addressFlag f then selectFlag f || otherUid t f else
     if selectFlag f then not (isSelected (t .state)) else isQuiet (t .state)
 
--- "but a Select of another UID, of the right length and without Option_flag, turns Selected into Ready"
+-- "but a Select of another UID, of the right length and without Option_flag, turns Selected into Ready". It is asked where check 6 matches: of a frame
+-- with these flags and this length it does so for another UID alone
 unfoldable pub selectOfAnother : Front → List ℕ → Bool
 selectOfAnother t f =
     ((eqb (codeOf f) 0x25 && eqb (endOf f) 10) && (addressFlag f && not (selectFlag f)))

@@ -1,0 +1,1 @@
+"""What tools/promises holds to the sources: the pages of docs/ and README.md."""
