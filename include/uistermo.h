@@ -1,7 +1,8 @@
 /*
  * uistermo.h: a proved ST25TV16KC or ST25TV64KC tag for a host in C.
  *
- * Link target/staticlib/libcabi.a, which `rt staticlib cabi` proves and writes (x86-64). examples/host.c is a host, tools/build-host links it.
+ * Link target/staticlib/libcabi.a, which `rt staticlib cabi` proves and writes (x86-64): tools/link-c does both. examples/host.c is the shortest
+ * host, uistermo/ one that keeps tags in image files.
  * What each call returns and leaves is proved for every input: crates/cabi/specs/Calls.antt says it, and this page says it in C.
  *
  * The host keeps three buffers for a tag and lends them to each call:

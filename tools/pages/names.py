@@ -14,14 +14,13 @@ OTHERS = {
     "003, 4.2.1:",  # how a comment names a source
     "n.", "Bool",  # of the language: what `use M as n` puts before names, and the type of tests
     "gcc-x86-64-linux-gnu",  # a package of Debian
-    "/tmp/new.img", "/tmp/next.img",  # files that the examples of README.md write
 }
 PLACE = (r"(?:(?<![\w/.`])(?P<crate>[a-z]+)/(?P<file>[A-Z]\w*)\b(?!/|\.\w)"
          r"|(?P<path>(?:crates/\w+/)?(?:(?:specs|proofs)/)?[A-Z]\w*\.antt))")
 RUN = r"(?P<run>(?:`[^`]+`(?:,\s+and\s+|,\s+|\s+and\s+))*`[^`]+`)"
 RUN_AT = re.compile(RUN + r"(?:\s+\(|,\s+|\s+of\s+)" + PLACE + r"(?!:\s+`)")
 RUN_OF = re.compile(RUN + r"\s+of\s+`?(?P<crate>[a-z]+)\b`?")
-PATH = re.compile(r"(?<![\w/`])(?:(?:crates|docs|second|tools|include|examples|speed|bin)/[\w.*/-]*[\w*/]"
+PATH = re.compile(r"(?<![\w/`])(?:(?:crates|docs|second|tools|include|examples|speed|bin|uistermo)/[\w.*/-]*[\w*/]"
                   r"|[a-z]+/(?:src|specs|proofs)\b[\w./]*|(?:src|specs|proofs)/[\w./]*\w)")
 SECTION = re.compile(r"Crate `(\w+)`")
 BYTES = re.compile(r"[0-9A-F]{2,}( [0-9A-F]{2,})*|[-?]")
@@ -31,7 +30,7 @@ FIELD = re.compile(r"(?<![\w./])([A-Z]\w*)\.(\w+)")
 
 
 class Names:
-    """The names of the sources, of the C header, of docs/CASEBOOK.md and of the vocabulary of docs/DEFINITION.md."""
+    """The names of the sources, of the C header, of the tool, of docs/CASEBOOK.md and of the vocabulary of docs/DEFINITION.md."""
 
     def __init__(self, sources):
         self.sources, self.homes, self.functions = sources, {}, {}
@@ -46,12 +45,14 @@ class Names:
         casebook = {said for _, _, text in Page("", read("docs/CASEBOOK.md")).parts() for said in quoted(text)}
         symbols = [said for row in Page("", read("docs/DEFINITION.md")).rows if row.head[0] == "symbol" for said in quoted(row.cells[0])]
         tests = "".join(path.read_text(encoding="utf-8") for path in ROOT.glob("second/tests/*.py"))
+        tool = "".join(path.read_text(encoding="utf-8") for path in ROOT.glob("uistermo/*.c"))
+        self.commands, options = re.findall(r"\.name = \"(\w+)\"", tool), re.findall(r"\"(--\w+)\"", tool)
         self.others = set().union(
             *sources.code.values(), sources.worked, casebook, (said.split()[0] for said in casebook), symbols,
             (word for said in symbols for word in [*IDENTIFIER.findall(said), *words(said).split()]),
             (function.module for function in sources.functions), (file for _, _, file in sources.files),
             re.findall(r"\w+", re.sub(r"#.*", "", read("crates.txt"))), re.findall(r"\blibc::(\w+)", self.text),
-            re.findall(r"\w+", read("include/uistermo.h")), re.findall(r"def (test_\w+)", tests))
+            re.findall(r"\w+", read("include/uistermo.h")), re.findall(r"def (test_\w+)", tests), options)
 
     def places(self, name):
         """The antt files that declare a name: (crate, folder, file)."""
@@ -83,10 +84,13 @@ class Names:
                    if any(record in source.members for source in self.sources.files.values()))
 
     def file(self, name):
-        """Whether a name is that of a file or folder, or a command that begins with one or with rt; CRATE and FILE stand for any."""
+        """Whether a name is that of a file or folder, or a command that begins with one or with rt; CRATE and FILE stand for any. After the tool's
+        own name there may stand one of its commands or options."""
         first, *rest = name.split()
         if first == "rt":
             return all(word in self.sources.crates for word in rest[1:])
+        if first == "bin/uistermo" and rest and rest[0] not in self.commands and rest[0] not in self.others:
+            return False
         if "/" not in first or first.startswith("/"):
             return (ROOT / first).is_file()
         return any(True for _ in ROOT.glob(re.sub("CRATE|FILE", "*", first.rstrip("/"))))

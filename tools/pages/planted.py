@@ -64,6 +64,8 @@ PLANTS = (
     ("a definition", DEFINITION, r"`DemandedIn`", "`DemandIn`"),
     ("the edits", README, r"has \d+ such edits", "has 1 such edits"),
     ("a function", README, r"`blocks::read_verdict`", "`blocks::verdict_read`"),
+    ("a command of the tool", README, r"`bin/uistermo run", "`bin/uistermo runs"),
+    ("an option of the tool", README, r"`--out`", "`--output`"),
 )
 
 

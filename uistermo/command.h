@@ -1,0 +1,62 @@
+/*
+ * What the commands of bin/uistermo share: how one is described, how it ends, and what is said on standard error.
+ */
+#ifndef COMMAND_H
+#define COMMAND_H
+
+#include <stdint.h>
+
+/* How a command ends. */
+enum status {
+    DONE = 0,
+    REFUSED = 1, /* by the library */
+    WRONG = 2,   /* a wrong word, or a file that cannot be read or written */
+};
+
+/* A command. main.c has the table of them. */
+struct command {
+    const char *name;
+    const char *words; /* what follows the name */
+    const char *about; /* a line for the list of commands */
+    const char *help;  /* what --help says below the usage; an example is its end */
+    enum status (*run)(const struct command *self, char **words, int count); /* words: those after the name */
+};
+
+extern const struct command factory_command, show_command, run_command;
+
+/* ---- on standard error; each gives the status that goes with it */
+
+/* A word that the command does not take, or words too many or too few, and why; then its usage. */
+enum status wrong_word(const struct command *c, const char *word, const char *why);
+enum status wrong_words(const struct command *c, const char *why);
+
+/* A file that could not be read or written, and why. */
+enum status unread(const char *path, const char *why);
+enum status unwritten(const char *path, const char *why);
+
+/* A call that the library refused, with document 01's number and its words, and what more there is to say. */
+enum status refused(const char *path, uint64_t result, const char *more);
+
+/* ---- words */
+
+/* For commands that take files and no options: a word that begins with - is wrong. */
+enum status no_options(const struct command *c, char **words, int count);
+
+/* The value of a digit in upper-case hex, or -1. */
+int hex_digit(char c);
+
+/* A UID as on a label: 16 hex digits, highest byte first, with any spaces and colons between bytes. Gives 0 where the text is none. */
+int read_uid(const char *text, uint64_t *uid);
+
+/* ---- standard output */
+
+/* Writes out what was printed; says so where that cannot be. */
+enum status flush_output(void);
+
+/* A number as document 01 writes it, with a comma before its last three digits. */
+struct figure {
+    char text[24];
+};
+struct figure figure(unsigned n);
+
+#endif

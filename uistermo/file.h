@@ -1,0 +1,28 @@
+/*
+ * Reading and replacing files. What goes wrong is said on standard error.
+ */
+#ifndef FILE_H
+#define FILE_H
+
+#include <stddef.h>
+#include <stdint.h>
+
+#include "command.h"
+
+/* Reads a file's bytes, so many at most. */
+enum status read_file(const char *path, uint8_t *bytes, size_t most, size_t *length);
+
+/* Whether a path leads to a plain file, no folder, device or pipe; and how long that is. */
+int is_plain_file(const char *path, size_t *length);
+
+/* Whether write_file may succeed, as far as can be told without writing. */
+enum status can_write(const char *path);
+
+/*
+ * Writes a file, or replaces the one that is there: the bytes go beside it under another name, which is then renamed. So a full disk or an
+ * interrupt leaves the file that was there as it was, and none beside it. A symbolic link stays, and what it leads to is replaced. A read-only
+ * file is not replaced, though the system would let it be renamed over. To a device or a pipe the bytes go straight.
+ */
+enum status write_file(const char *path, const uint8_t *bytes, size_t length);
+
+#endif
