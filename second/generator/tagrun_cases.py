@@ -2,7 +2,7 @@
 
 from tagmodel.boundary import FIELD, HELD, ROUND, bytes_of_record
 from tagmodel.session import MOST_DIGITS, Session
-from tagmodel.sizes import SIZES
+from tagmodel.sizes import size_of_memory
 
 from . import fields, frames
 from .dice import Dice
@@ -43,7 +43,7 @@ def command_fields(dice, record, code):
 
 def next_line(dice, session):
     """One line, from the record as it stands in the session."""
-    record = bytes_of_record(session.record, SIZES[0])
+    record = bytes_of_record(session.record, size_of_memory(len(session.memory)))
     if record[ROUND] and dice.below(12) or record[HELD] and dice.one_in(2):
         return b"EOF"
     kind = dice.below(40)

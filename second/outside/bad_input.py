@@ -1,4 +1,4 @@
-"""Bad input and output for the two programs.
+"""Bad input and output for a program that reads lines.
 
 Expected: the program ends by itself within the limit, without a signal other
 than SIGPIPE, in little memory; where its output can be written, it is that of
@@ -26,10 +26,11 @@ IN_PIECES = {"casebook": b"EOF\nON\nREQ 2601006A17\nREQ \nPUT 2 0102\n\nEOF", "t
 
 
 class Settings(NamedTuple):
-    """Seconds a run may take, and the length of the longest line."""
+    """Seconds a run may take, the length of the longest line, and the most memory in bytes."""
 
     limit: float = 300
     long_line: int = 100 * MEGABYTE
+    most_memory: int = MOST_MEMORY
 
 
 def model_output(program, source, sink):
@@ -39,10 +40,11 @@ def model_output(program, source, sink):
 
 
 class BadInput:
-    """The runs of one program, with the faults found."""
+    """The runs of one command, with the faults found; `program` is the model's that it must do as."""
 
-    def __init__(self, program, command, folder, settings):
+    def __init__(self, program, command, folder, settings, label=None):
         self.program, self.command, self.folder, self.settings = program, command, folder, settings
+        self.label = label or program
         self.sink, self.expected = (os.path.join(folder, f"{program}-{name}") for name in ("sink", "expected"))
         self.ended, self.faults, self.firsts = {}, [], {}
 
@@ -55,13 +57,13 @@ class BadInput:
             self.fault(name, f"was ended by signal {ended.signal}")
         elif want_success and ended.status:
             self.fault(name, f"ended with status {ended.status}")
-        if ended.peak > MOST_MEMORY:
+        if ended.peak > self.settings.most_memory:
             self.fault(name, f"took {ended.peak // MEGABYTE} MB of memory")
 
     def fault(self, name, text):
         """Prints a fault and keeps it."""
         self.faults.append(name)
-        print(f"bad input, {self.program}, {name}: {text}", flush=True)
+        print(f"bad input, {self.label}, {name}: {text}", flush=True)
 
     def hold_output(self, name):
         """The output must be that of the second model."""
@@ -114,11 +116,22 @@ class BadInput:
             if first != self.firsts[source]:
                 self.fault(name, f"the first byte is {first}")
 
+    def failing(self, files):
+        """Every run that cannot come to its end."""
+        self.unreadable()
+        self.unwritable(files["an ordinary run"], files["a very long line"])
+
+    def every(self, files):
+        """All runs on the files of `write_inputs`."""
+        self.readable(files)
+        self.small_pieces(os.path.join(self.folder, "pieces"))
+        self.failing(files)
+
     def figures(self, seconds):
         """The line at the end."""
         longest = max(self.ended, key=lambda name: self.ended[name].seconds)
         peak = max(ended.peak for ended in self.ended.values())
-        return (f"bad input, {self.program}: {len(self.ended)} runs, {len(self.faults)} faults, longest "
+        return (f"bad input, {self.label}: {len(self.ended)} runs, {len(self.faults)} faults, longest "
                 f"{self.ended[longest].seconds:.1f} seconds ({longest}), peak {peak / MEGABYTE:.0f} MB, {seconds:.1f} seconds")
 
 
@@ -126,11 +139,7 @@ def try_program(program, command, settings):
     """All runs of one program; returns the number of faults."""
     began = time.monotonic()
     with tempfile.TemporaryDirectory(prefix="uistermo-") as folder:
-        files = write_inputs(folder, program, settings.long_line)
         runs = BadInput(program, command, folder, settings)
-        runs.readable(files)
-        runs.small_pieces(os.path.join(folder, "pieces"))
-        runs.unreadable()
-        runs.unwritable(files["an ordinary run"], files["a very long line"])
+        runs.every(write_inputs(folder, program, settings.long_line))
     print(runs.figures(time.monotonic() - began), flush=True)
     return len(runs.faults)

@@ -8,12 +8,10 @@ import sys
 import tempfile
 import unittest
 
-from generator.dice import Dice
-from outside import c_host
 from outside.bad_input import MOST_MEMORY, BadInput, Settings, try_program
 from outside.runs import CLOSED, Ended, endless, run, run_in_pieces, run_to_closed_pipe
 
-from .support import FOLDER, LARGE, SMALL, framed
+from .support import FOLDER
 
 GOOD = Ended(status=0, signal=0, seconds=0.1, peak=1000, late=False)
 
@@ -105,41 +103,3 @@ class Programs(unittest.TestCase):
             faults = try_program("casebook", ["true"], self.SETTINGS)
         self.assertEqual(faults, 14 + 1 + 2, printed.getvalue())
         self.assertIn("bad input, casebook: 26 runs, 17 faults", printed.getvalue())
-
-
-class CHost(unittest.TestCase):
-    MODEL = [sys.executable, os.path.join(FOLDER, "tests", "model_host.py")]
-
-    def faults(self, command, *trials):
-        """The faults of some trials, each a function of a Trial."""
-        with tempfile.TemporaryDirectory() as folder, contextlib.redirect_stdout(io.StringIO()):
-            trial = c_host.Trial(command, folder)
-            for run in trials:
-                run(trial)
-        return trial.faults
-
-    def broken(self, trial):
-        """Byte 51 of an image is not 0: number 5."""
-        image = bytearray(c_host.any_image(Dice(1), SMALL))
-        image[51] = 1
-        trial.refused_image("broken", bytes(image), SMALL)
-
-    def too_long(self, trial):
-        trial.refused_image("long", bytes(20000), LARGE)
-
-    def test_the_model_has_no_fault(self):
-        self.assertEqual(self.faults(self.MODEL, lambda trial: trial.sessions(1), self.broken, self.too_long), 0)
-
-    def test_wrong_hosts(self):
-        """One that does nothing: at each session output and image; at each refused image status and number."""
-        self.assertEqual(self.faults(["true"], lambda trial: trial.sessions(1)), 2 + 2 + 1)
-        self.assertEqual(self.faults(["true"], self.broken, self.too_long), 4)
-        self.assertEqual(self.faults(["true"], c_host.Trial.factories), 8 + 8)
-
-    def test_one_byte(self):
-        """A host that changes one digit of its answers."""
-        command = ["sh", "-c", '"$@" | sed "s/0078F0/0078F1/"', "sh", *self.MODEL]
-        lines = [b"ON", b"REQ " + framed("0226").hex().upper().encode("ascii")]
-        image = c_host.any_image(Dice(2), SMALL)
-        self.assertEqual(self.faults(command, lambda trial: trial.session("one", lines, image, SMALL)), 1)
-        self.assertEqual(self.faults(self.MODEL, lambda trial: trial.session("one", lines, image, SMALL)), 0)

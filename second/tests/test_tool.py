@@ -1,0 +1,277 @@
+"""The trials of the tool bin/uistermo, on a model of it that is sound and on ones that are not."""
+
+import contextlib
+import errno
+import io
+import os
+import sys
+import tempfile
+import unittest
+
+from generator.dice import Dice
+from outside import (tool_factory, tool_files, tool_interrupts, tool_limits, tool_pages, tool_sessions, tool_show,
+                     tool_tags, tool_words)
+from outside.bad_input import Settings
+from outside.tool_runs import KEPT, Trial, changes, snapshot, wrong_words
+from tagmodel import rights
+from tagmodel.record import factory_record
+
+from .support import FOLDER, LARGE, SMALL, UID
+
+MODEL = [sys.executable, os.path.join(FOLDER, "tests", "model_tool.py")]
+SESSIONS = (None, 0, 1, 2, 3)
+SESSION = os.path.join(os.path.dirname(FOLDER), "examples", "session.txt")
+README = """# A page
+
+    $ false
+
+## At the bench
+
+A factory tag, and a session on it:
+
+    $ bin/uistermo factory 16 E002230401D6C8F0 tag.img
+    $ printf 'ON\\n260100\\nno\\n' | bin/uistermo run tag.img
+    1 -
+    2 0000F0C8D601042302E064A3
+    3 ?
+    not printed, were it not here
+and so on
+
+    no command stands before this
+
+    $ bin/uistermo show none.img
+    uistermo: none.img: No such file or directory
+
+## After it
+
+    $ false
+"""
+
+
+def wrong_tool(name):
+    """The command of a tool with something wrong."""
+    return [sys.executable, os.path.join(FOLDER, "tests", "wrong_tools.py"), name]
+
+
+def faults(command, *trials, limit=60):
+    """The faults of some trials, each a function of a Trial; and what was printed."""
+    printed = io.StringIO()
+    with tempfile.TemporaryDirectory() as folder, contextlib.redirect_stdout(printed):
+        os.chmod(folder, 0o755)
+        trial = Trial(command, folder, limit=limit)
+        for run in trials:
+            run(trial)
+    return trial.faults, printed.getvalue()
+
+
+def broken(trial):
+    """Byte 51 of an image is not 0: number 5."""
+    image = tool_show.altered(tool_tags.any_image(Dice(1), SMALL), {51: 1})
+    tool_words.refused_image(trial, "broken", image)
+
+
+def too_long(trial):
+    """Number 4."""
+    tool_words.refused_image(trial, "long", bytes(20000))
+
+
+def factory(trial):
+    """One UID in two spellings."""
+    uid = tool_factory.UIDS[4]
+    for size, way in ((SMALL, 0), (LARGE, 15)):
+        tool_factory.one_factory(trial, size, uid, tool_factory.spellings(uid)[way], way)
+    trial.refuses("a UID", ["factory", "16", "E0-02", "new.img"], wrong_words("factory", "E0-02"))
+
+
+def show(trial):
+    """Two images, one of them with a password and a protection of its own for each area."""
+    registers = {12: 5, 13: 12, 14: 10, 15: 13, 16: 15, 17: 254, 18: 2}
+    tool_show.show_one(trial, "three borders", tool_show.altered(tool_tags.any_image(Dice(5), LARGE), registers))
+    tool_show.show_one(trial, "factory", tool_tags.factory_image(SMALL))
+
+
+def one_session(trial):
+    """A session of three lines, written back."""
+    tool_sessions.one_session(trial, 1, b"ON\n0226\n022100A1A2A3A4\n", tool_tags.factory_image(SMALL))
+
+
+def words(trial):
+    """A wrong word, a command that is none, and no words."""
+    trial.put("tag.img", tool_tags.factory_image(SMALL))
+    trial.refuses("an option", ["run", "tag.img", "--on"], wrong_words("run", "--on"))
+    tool_words.wrong_command(trial, "shows")
+    tool_words.no_words(trial)
+
+
+def link(trial):
+    """A link into a folder."""
+    tool_files.folders(trial)
+    tool_files.one_link(trial, tool_files.Case(2), "near", "folder/real.img")
+
+
+def not_a_place(trial):
+    """A folder and a read-only file as files to write."""
+    tool_files.folders(trial)
+    tool_files.unwritable_place(trial, "folder")
+    trial.put("only.img", KEPT, 0o444)
+    tool_files.unwritable_place(trial, "only.img")
+
+
+def small_files(trial):
+    """A file that can be begun and not ended."""
+    tool_limits.file_size_limits(trial, (1000,))
+
+
+def interrupt(trial):
+    """One signal of the three."""
+    image = tool_tags.factory_image(SMALL)
+    trial.put("tag.img", image)
+    tool_interrupts.interrupted(trial, tool_interrupts.SIGNALS[0], image, ["run", "tag.img"], b"02")
+
+
+def line_by_line(trial):
+    """Answers that come before the next line is given."""
+    image = tool_tags.factory_image(SMALL)
+    trial.put("tag.img", image)
+    tool_interrupts.to_the_end(trial, image, b"ON\n0226\n", ["run", "tag.img", "--out", "new.img"], "new.img")
+
+
+class Model(unittest.TestCase):
+    """The model of the tool is sound, so no trial finds a fault."""
+
+    def no_fault(self, *trials):
+        self.assertEqual(faults(MODEL, *trials), (0, ""))
+
+    def test_commands(self):
+        self.no_fault(factory, show, one_session, tool_sessions.printed_session,
+                      lambda trial: tool_sessions.sessions(trial, 1),
+                      lambda trial: tool_sessions.streams(trial, 1, 300))
+
+    def test_refusals(self):
+        self.no_fault(broken, too_long, words)
+
+    def test_files(self):
+        self.no_fault(not_a_place, lambda trial: tool_files.unreadable_file(trial, "none/tag.img", errno.ENOENT), link,
+                      tool_files.devices, tool_files.pipes, small_files)
+
+    def test_interrupts(self):
+        self.no_fault(interrupt, line_by_line)
+
+    def test_pages(self):
+        self.no_fault(lambda trial: tool_pages.help_pages(trial, SESSION))
+
+    def test_output_that_cannot_be_written(self):
+        with tempfile.TemporaryDirectory() as folder, contextlib.redirect_stdout(io.StringIO()) as printed:
+            trial = Trial(MODEL, tempfile.mkdtemp(dir=folder))
+            trial.put("lines", b"ON\n022100A1A2A3A4\n")
+            runs = tool_sessions.BadSessions(trial, folder, Settings(limit=20))
+            runs.readable({"a file": trial.path("lines")})
+            runs.command = runs.back
+            runs.unwritable(trial.path("lines"), trial.path("lines"))
+        self.assertEqual((runs.faults, printed.getvalue()), ([], ""))
+
+
+class Wrong(unittest.TestCase):
+    """Tools that are not sound, and what the trials find."""
+
+    def found(self, name, *trials, limit=60):
+        count, printed = faults(wrong_tool(name), *trials, limit=limit)
+        self.assertGreater(count, 0)
+        return printed
+
+    def test_a_tool_that_does_nothing(self):
+        for run in (factory, show, one_session, broken, too_long, words, link, not_a_place, small_files, interrupt,
+                    line_by_line, tool_files.devices, tool_files.pipes,
+                    lambda trial: tool_pages.help_pages(trial, SESSION)):
+            self.assertGreater(faults(["true"], run)[0], 0, run)
+
+    def test_answers(self):
+        self.assertIn("standard output: expected 22 bytes, '1 -\n2 0078F0", self.found("one-digit", one_session))
+        self.assertIn("answer to b'ON'", self.found("late-answers", line_by_line, limit=2))
+        self.assertIn("refused 5: image header breaks", self.found("refusals", broken))
+        self.assertIn("it has over 8,256 bytes", self.found("refusals", too_long))
+
+    def test_what_is_shown(self):
+        self.assertIn("password 2", self.found("another-area", show))
+        self.assertIn("passwords shown: expected [], found [0, 1, 2, 3]", self.found("passwords", show))
+
+    def test_files(self):
+        self.assertIn("file tag.img: expected 2,112 bytes", self.found("in-place", small_files))
+        self.assertIn("file new.img~", self.found("left-over", factory))
+        self.assertIn("file near: ", self.found("over-the-link", link))
+        self.assertIn("mode 100640 became 100600", self.found("permissions", link))
+        self.assertIn("bytes of the session read", self.found("no-look", not_a_place))
+
+    def test_interrupts(self):
+        self.assertIn("SIGINT, run tag.img: status: expected -2", self.found("quiet-interrupt", interrupt))
+
+
+class Expected(unittest.TestCase):
+    """What the trials expect, held to the model and to 01."""
+
+    def test_rights(self):
+        """Each area under each register: always, in the session of its password alone, or never."""
+        record = factory_record(UID, SMALL)._replace(registers=(0, 1, 0, 2, 0, 3, 0), field=True)
+        for area, block in ((1, 0), (2, 16), (3, 24), (4, 32)):
+            for register in range(16):
+                meant = {tool_show.ALWAYS: list(SESSIONS), tool_show.SESSION: [register & 3], tool_show.NEVER: []}
+                for access, right in zip((rights.READ, rights.WRITE), tool_show.rights(area, register)):
+                    in_session = {session: record.with_register(2 * (area - 1), register)._replace(session=session)
+                                  for session in SESSIONS}
+                    allows = [session for session in SESSIONS if rights.allowed(in_session[session], block, access)]
+                    self.assertEqual(allows, meant[right], (area, register, access))
+
+    def test_shown_lines(self):
+        """ENDA1 is 12, so that Area 2 begins at block 104 (004); 09h is protection 10 with password 1."""
+        image = tool_show.altered(tool_tags.factory_image(SMALL), {13: 12, 14: 9, 64: 1, 72: 1, 11: 0x12, 9: 0xAB})
+        self.assertEqual(tool_show.shown_lines(image).decode("ascii").split("\n"), [
+            "size      16 Kbit, 512 blocks of 4 bytes", "UID       E002230401D6C8F0", "AFI       ABh", "DSFID     00h",
+            "locked    block 1, configuration",
+            "Area 1    blocks 0 to 103, protection 00, no password: read always, write always",
+            "Area 2    blocks 104 to 511, protection 10, password 1: read in its session, write in its session",
+            "Area 3    no blocks, protection 00, no password: read always, write always",
+            "Area 4    no blocks, protection 00, no password: read always, write always",
+            "memory    not empty, other than 00h in 2 of 512 blocks, first in block 0", ""])
+
+    def test_leaks(self):
+        image = tool_tags.any_image(Dice(3), SMALL)
+        self.assertEqual(tool_show.leaks(image, b""), [])
+        self.assertEqual(tool_show.leaks(image, image[27:35].hex().upper().encode("ascii")), [1])
+        self.assertEqual(tool_show.leaks(image, image[50:42:-1].hex().encode("ascii") + image[19:27]), [0, 3])
+
+    def test_snapshots(self):
+        with tempfile.TemporaryDirectory() as folder:
+            trial = Trial([], folder)
+            for name in ("a", "b", "c"):
+                trial.put(name, KEPT, 0o644)
+            before = snapshot(folder)
+            self.assertEqual(changes(before, snapshot(folder)), {})
+            trial.put("a", b"x", 0o644)
+            trial.put("b", KEPT, 0o600)
+            trial.drop("c")
+            os.mkdir(trial.path("d"), 0o755)
+            os.symlink("a", trial.path("e"))
+            found = changes(before, snapshot(folder))
+        self.assertEqual((found["a"], found["b"], found["c"]), (b"x", "mode 100644 became 100600", "gone"))
+        self.assertEqual(sorted(found), ["a", "b", "c", "d", "e"])
+
+    def test_examples_on_a_page(self):
+        page = "usage: x\n  bin/uistermo show\n\nExamples:\n  bin/uistermo show a\n  printf x | bin/uistermo run a\n"
+        self.assertEqual(tool_pages.example_commands(page), ["bin/uistermo show a", "printf x | bin/uistermo run a"])
+        self.assertEqual(tool_pages.example_commands("no example"), [])
+
+    def test_worked_commands(self):
+        commands = tool_pages.worked_commands(README)
+        self.assertEqual([line for line, _ in commands], [
+            "bin/uistermo factory 16 E002230401D6C8F0 tag.img",
+            "printf 'ON\\n260100\\nno\\n' | bin/uistermo run tag.img",
+            "bin/uistermo show none.img"])
+
+    def test_worked_example(self):
+        def tried(text):
+            return faults(MODEL, lambda trial: tool_pages.worked_example(trial, text, SESSION))
+        count, printed = tried(README)
+        self.assertEqual(count, 1, printed)
+        self.assertIn("README.md, printf", printed)
+        self.assertEqual(tried(README.replace("    not printed, were it not here\n", "")), (0, ""))
+        self.assertEqual(tried("# No such section\n")[0], 1)
