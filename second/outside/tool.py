@@ -19,20 +19,23 @@ from .tool_words import refused_images, wrong_word_lists
 
 
 class Amounts(NamedTuple):
-    """How much is tried: images shown of each size, tags of three sessions, streams and their lines, bad input."""
+    """How much is tried: images shown of each size, one broken header in so many, tags of three sessions, streams and
+    their lines, bad input.
+    """
 
     shown: int
+    broken: int
     tags: int
     seeds: int
     lines: int
     bad: Settings
 
 
-FULL = Amounts(40, 100, 5, 4000, Settings())
-QUICK = Amounts(4, 10, 1, 1000, Settings(long_line=10 * MEGABYTE))
+FULL = Amounts(40, 1, 100, 5, 4000, Settings())
+QUICK = Amounts(4, 5, 10, 1, 1000, Settings(long_line=10 * MEGABYTE))
 # A sanitizer takes memory of its own.
-SANITIZED = Amounts(20, 50, 2, 2000, Settings(long_line=10 * MEGABYTE, most_memory=256 * MEGABYTE))
-SANITIZED_QUICK = Amounts(4, 10, 1, 1000, Settings(long_line=MEGABYTE, most_memory=256 * MEGABYTE))
+SANITIZED = Amounts(20, 1, 50, 2, 2000, Settings(long_line=10 * MEGABYTE, most_memory=256 * MEGABYTE))
+SANITIZED_QUICK = Amounts(4, 5, 10, 1, 1000, Settings(long_line=MEGABYTE, most_memory=256 * MEGABYTE))
 
 
 def parts(root, amounts):
@@ -45,7 +48,7 @@ def parts(root, amounts):
         "sessions": lambda trial: sessions(trial, amounts.tags),
         "streams": lambda trial: streams(trial, amounts.seeds, amounts.lines),
         "run": lambda trial: bad_sessions(trial, amounts.bad),
-        "refused images": refused_images,
+        "refused images": lambda trial: refused_images(trial, amounts.broken),
         "wrong words": wrong_word_lists,
         "files": files,
         "limits": limits,

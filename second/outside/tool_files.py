@@ -153,15 +153,20 @@ def one_link(trial, case, link, target):
 
 
 def devices(trial):
-    """/dev/null and /dev/full; neither is replaced."""
-    case = Case(9300)
+    """/dev/null and /dev/full, which are written straight.
+
+    A tool that renames a file over them would take them from the whole machine. So root never names one to it.
+    """
+    case, ways = Case(9300), trial.plain_user()
+    if ways is None:
+        return
     trial.put("tag.img", case.image)
-    trial.expect("run --out /dev/null", ["run", "tag.img", "--out", "/dev/null"], output=case.output, feed=case.stream)
-    trial.expect("factory to /dev/null", ["factory", "16", SESSION_UID, "/dev/null"])
-    full = not_written("/dev/full", errno.ENOSPC)
-    words = ["run", "tag.img", "--out", "/dev/full"]
-    trial.expect("run --out /dev/full", words, WRONG, case.output, full, feed=case.stream)
-    trial.refuses("factory to /dev/full", ["factory", "16", SESSION_UID, "/dev/full"], full)
+    words = ["run", "tag.img", "--out", "/dev/null"]
+    trial.expect("run --out /dev/null", words, output=case.output, feed=case.stream, **ways)
+    trial.expect("factory to /dev/null", ["factory", "16", SESSION_UID, "/dev/null"], **ways)
+    full, words = not_written("/dev/full", errno.ENOSPC), ["run", "tag.img", "--out", "/dev/full"]
+    trial.expect("run --out /dev/full", words, WRONG, case.output, full, feed=case.stream, **ways)
+    trial.refuses("factory to /dev/full", ["factory", "16", SESSION_UID, "/dev/full"], full, **ways)
 
 
 def pipes(trial):

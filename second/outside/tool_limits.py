@@ -9,10 +9,9 @@ import subprocess
 from tagmodel.sizes import SIZES
 
 from .tool_files import Case, stays_unread
-from .tool_runs import DONE, WRONG, not_read, not_written
+from .tool_runs import NOBODY, WRONG, not_read, not_written
 from .tool_tags import SESSION_UID, factory_image
 
-NOBODY = 65534
 FILE_SIZES = (0, 1, 2111)  # bytes that a file may have; an image has one more at least
 # A disk of its own, full but for the image; what is on it at the end is copied, since it goes with its namespace.
 FULL_DISK = """mount -t tmpfs -o size=256k,mode=755 none disk && cp tag.img disk/tag.img || exit 77
@@ -25,23 +24,8 @@ exit $status"""
 TRY_MOUNT = "mount -t tmpfs none disk"
 
 
-def become_nobody():
-    """In a child of root, before the tool starts."""
-    os.setgroups([])
-    os.setgid(NOBODY)
-    os.setuid(NOBODY)
-
-
-def plain_user(trial):
-    """How to start the tool as a user whom permissions bind; None where that user cannot reach the tool."""
-    if os.geteuid():
-        return {}
-    found = trial.run(["--help"], preexec_fn=become_nobody)
-    return {"preexec_fn": become_nobody} if found.status == DONE else None
-
-
 def owned(trial, name, mode):
-    """Sets the permissions of a name that belongs to the user of `plain_user`."""
+    """Sets the permissions of a name, and gives it to the user of `plain_user`."""
     if not os.geteuid():
         os.chown(trial.path(name), NOBODY, NOBODY)
     os.chmod(trial.path(name), mode)
@@ -49,12 +33,10 @@ def owned(trial, name, mode):
 
 def other_user(trial):
     """Files and folders that permissions close."""
-    ways = plain_user(trial)
-    if ways is None:
-        print(f"{trial.label}: as another user it is not tried, for that user cannot reach it", flush=True)
-        return
-    closed_files(trial, ways)
-    closed_folder(trial, ways)
+    ways = trial.plain_user()
+    if ways is not None:
+        closed_files(trial, ways)
+        closed_folder(trial, ways)
 
 
 def closed_files(trial, ways):

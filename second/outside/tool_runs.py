@@ -1,5 +1,6 @@
 """The tool as some command starts it: each run of it, and what is held after every run."""
 
+import contextlib
 import os
 import re
 import signal
@@ -18,6 +19,7 @@ KEPT = b"what was there"
 REPORT = re.compile(rb"Sanitizer|runtime error")  # of a build with sanitizers
 SOME_LINES = re.compile(rb"(uistermo: [^\n]*\n)+")  # all that is said begins so
 MOST_SHOWN = 40
+NOBODY = 65534  # the user and group that own nothing
 
 
 class Found(NamedTuple):
@@ -64,6 +66,13 @@ def changes(before, after):
         elif old != new:
             found[name] = new[1] if isinstance(new[1], bytes) else f"mode {new[0]:o}, {new[1]}"
     return found
+
+
+def become_nobody():
+    """In a child of root, before the tool starts."""
+    os.setgroups([])
+    os.setgid(NOBODY)
+    os.setuid(NOBODY)
 
 
 def said(*texts):
@@ -129,6 +138,16 @@ class Trial:
         """One run to its end; `feed` is its standard input unless `ways` names another."""
         with self.start(words, **ways) as program:
             return self.end(program, None if "stdin" in ways else feed)
+
+    def plain_user(self):
+        """How to start the tool as a user whom permissions bind; None, and a line, where that user cannot reach it."""
+        if os.geteuid():
+            return {}
+        with contextlib.suppress(PermissionError):
+            if self.run(["--help"], preexec_fn=become_nobody).status == DONE:
+                return {"preexec_fn": become_nobody}
+        print(f"{self.label}: as another user it is not tried, for that user cannot reach it", flush=True)
+        return None
 
     def end(self, program, feed=None):
         """Waits for the end; after the limit the program's own group is ended."""

@@ -1,6 +1,5 @@
 """The tool's `run`: sessions on the images that it leaves, and tagrun's own streams."""
 
-import os
 import tempfile
 import time
 
@@ -76,7 +75,7 @@ class BadSessions(BadInput):
     def __init__(self, trial, folder, settings):
         self.trial, self.image = trial, factory_image(SIZES[0])
         self.back = [*trial.command, "run", trial.path("tag.img")]
-        super().__init__("tagrun", [*self.back, "--out", os.devnull], folder, settings, trial.label)
+        super().__init__("tagrun", [*self.back, "--out", trial.path("out.img")], folder, settings, trial.label)
         trial.put("tag.img", self.image)
         self.before, self.way = snapshot(trial.folder), ""
 
@@ -88,6 +87,8 @@ class BadSessions(BadInput):
         name += self.way
         super().note(name, ended, want_success)
         done = ended.status == DONE and not ended.signal
+        if done:
+            self.trial.drop("out.img")
         if done and "pipe closed" in name and "endless" not in name:
             self.trial.put("tag.img", self.image)
         elif not ended.signal and ended.status != (DONE if want_success else WRONG):

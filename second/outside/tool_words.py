@@ -53,18 +53,25 @@ def refused_image(trial, what, image):
         trial.expect(f"{what}, {' '.join(words)}", words, REFUSED, b"", refusal_line("broken.img", image), feed=STREAM)
 
 
-def refused_images(trial):
-    """Every broken header of both sizes, and lengths that no image has."""
+def refused_images(trial, step=1):
+    """Every broken header of both sizes, or one in so many of them, and lengths that no image has."""
     dice = Dice(8000)
     trial.put("session.txt", STREAM)
     for size in SIZES:
-        for number, broken in enumerate(scenes.HEADER_BREAKS):
+        for number, broken in list(enumerate(scenes.HEADER_BREAKS))[::step]:
             image = bytearray(any_image(dice, size))
             broken(image)
             if refusal(image):  # an end over that of 16 Kbit may be sound in 64
                 refused_image(trial, f"{size.blocks} blocks, broken header {number}", bytes(image))
+    endless_image(trial)
     for length in LENGTHS:
         refused_image(trial, f"image of {length} bytes", any_image(dice, SIZES[1]).ljust(length, b"\x00")[:length])
+
+
+def endless_image(trial):
+    """A device without an end is too long as well; by `show` alone, which writes no file."""
+    line = refusal_line("/dev/zero", bytes(LONGEST_IMAGE + 1))
+    trial.expect("show /dev/zero", ["show", "/dev/zero"], REFUSED, b"", line)
 
 
 def wrong_word_lists(trial):

@@ -152,7 +152,8 @@ class Model(unittest.TestCase):
 
     def test_files(self):
         self.no_fault(not_a_place, lambda trial: tool_files.unreadable_file(trial, "none/tag.img", errno.ENOENT), link,
-                      tool_files.devices, tool_files.pipes, small_files)
+                      tool_files.pipes, small_files)
+        self.assertEqual(faults(MODEL, tool_files.devices)[0], 0)  # a line says so where another user cannot reach it
 
     def test_interrupts(self):
         self.no_fault(interrupt, line_by_line)
