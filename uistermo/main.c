@@ -1,6 +1,7 @@
 /*
  * bin/uistermo: the tool for the people at the bench, over the proved tag. This file has the table of commands; each has a file of its own.
- * image.c loads and saves image files by the library, file.c reads and replaces files, words.c and say.c read words and say what is wrong.
+ * session.c runs a session's lines, image.c loads and saves image files by the library, file.c reads and replaces files, words.c and say.c read
+ * words and say what is wrong.
  */
 #include <stdio.h>
 #include <string.h>
@@ -65,5 +66,5 @@ static enum status start(char **words, int count)
 int main(int count, char **words)
 {
     enum status status = start(words + 1, count - 1);
-    return status == DONE ? flush_output() : status;
+    return (int)(status == DONE ? flush_output() : status);
 }
