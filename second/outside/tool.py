@@ -11,9 +11,10 @@ from .tool_factory import factories, wrong_factories
 from .tool_files import files
 from .tool_interrupts import interrupts
 from .tool_limits import limits
+from .tool_meanwhile import meanwhile
 from .tool_pages import pages
 from .tool_runs import Trial
-from .tool_sessions import bad_sessions, printed_session, sessions, streams
+from .tool_sessions import bad_sessions, no_forms, printed_session, sessions, streams
 from .tool_show import shows
 from .tool_words import refused_images, wrong_word_lists
 
@@ -47,12 +48,14 @@ def parts(root, amounts):
         "session of 01": printed_session,
         "sessions": lambda trial: sessions(trial, amounts.tags),
         "streams": lambda trial: streams(trial, amounts.seeds, amounts.lines),
+        "lines of no form": no_forms,
         "run": lambda trial: bad_sessions(trial, amounts.bad),
         "refused images": lambda trial: refused_images(trial, amounts.broken),
         "wrong words": wrong_word_lists,
         "files": files,
         "limits": limits,
         "interrupts": interrupts,
+        "meanwhile": meanwhile,
         "pages": lambda trial: pages(trial, root),
     }
 

@@ -9,9 +9,10 @@ import subprocess
 from tagmodel.sizes import SIZES
 
 from .tool_files import Case, stays_unread
-from .tool_runs import NOBODY, WRONG, not_read, not_written
+from .tool_runs import NOBODY, WRONG, become_nobody, not_read, not_written, read_file
 from .tool_tags import SESSION_UID, factory_image
 
+OTHER, THIRD = 12345, 23456  # users and groups other than NOBODY's
 FILE_SIZES = (0, 1, 2111)  # bytes that a file may have; an image has one more at least
 # A disk of its own, full but for the image; what is on it at the end is copied, since it goes with its namespace.
 FULL_DISK = """mount -t tmpfs -o size=256k,mode=755 none disk && cp tag.img disk/tag.img || exit 77
@@ -37,6 +38,8 @@ def other_user(trial):
     if ways is not None:
         closed_files(trial, ways)
         closed_folder(trial, ways)
+        if not os.geteuid():
+            owners(trial)
 
 
 def closed_files(trial, ways):
@@ -76,10 +79,54 @@ def closed_folder(trial, ways):
         line = not_written(place, errno.EACCES)
         trial.refuses(f"factory to {place}", ["factory", "16", SESSION_UID, place], line, **ways)
         words = ["run", "shut/tag.img", "--out", place]
-        trial.expect(f"run to {place}", words, WRONG, None, line, feed=case.stream, **ways)
+        trial.expect(f"run to {place}", words, WRONG, None, case.says_at_the_end(line), feed=case.stream, **ways)
     os.chmod(trial.path("shut"), 0o755)
     trial.drop("shut/tag.img")
     os.rmdir(trial.path("shut"))
+
+
+def become_member():
+    """As `become_nobody`, but a member of one group more."""
+    os.setgroups([OTHER])
+    os.setgid(NOBODY)
+    os.setuid(NOBODY)
+
+
+def owners(trial):
+    """Owner and group stay where the system lets the user keep them; a group that is lost loses its permissions."""
+    os.mkdir(trial.path("open"))
+    os.chmod(trial.path("open"), 0o777)
+    for user, owner, mode, expected in (
+            (None, (OTHER, THIRD), 0o640, (OTHER, THIRD, 0o640)),
+            (None, (NOBODY, OTHER), 0o664, (NOBODY, OTHER, 0o664)),
+            (become_nobody, (NOBODY, NOBODY), 0o660, (NOBODY, NOBODY, 0o660)),
+            (become_nobody, (NOBODY, OTHER), 0o664, (NOBODY, NOBODY, 0o604)),
+            (become_nobody, (NOBODY, 0), 0o670, (NOBODY, NOBODY, 0o600)),
+            (become_nobody, (OTHER, THIRD), 0o666, (NOBODY, NOBODY, 0o606)),
+            (become_nobody, (OTHER, NOBODY), 0o664, (NOBODY, NOBODY, 0o664)),
+            (become_member, (NOBODY, OTHER), 0o664, (NOBODY, OTHER, 0o664)),
+            (become_member, (THIRD, OTHER), 0o660, (NOBODY, OTHER, 0o660)),
+            (become_member, (NOBODY, THIRD), 0o660, (NOBODY, NOBODY, 0o600))):
+        owned_file(trial, user, owner, mode, expected)
+    trial.drop("open/tag.img")
+    os.rmdir(trial.path("open"))
+
+
+def owned_file(trial, user, owner, mode, expected):
+    """One file that is replaced by `factory` and by `run`, with its owner, group and permissions after it."""
+    case, path = Case(9650), trial.path("open/tag.img")
+    for words, errors, image in ((["run", "open/tag.img"], case.said, case.left),
+                                 (["factory", "64", SESSION_UID, "open/tag.img"], b"", factory_image(SIZES[1]))):
+        what = f"{words[0]} by {user.__name__ if user else 'root'} on a file of {owner}, mode {mode:o}"
+        trial.put("open/tag.img", case.image)
+        os.chown(path, *owner)
+        os.chmod(path, mode)
+        changed = f"mode {0o100000 | mode:o} became {0o100000 | expected[2]:o}"
+        trial.expect(what, words, output=None, errors=errors, feed=case.stream, preexec_fn=user,
+                     written={"open/tag.img": image if expected[2] == mode else changed})
+        after = os.stat(path)
+        trial.hold(f"{what}: owner, group", (after.st_uid, after.st_gid), expected[:2])
+        trial.hold(f"{what}: image", read_file(path), image)
 
 
 def small_files(most):
@@ -100,7 +147,8 @@ def file_size_limits(trial, sizes=FILE_SIZES):
                              ("new.img", ["factory", "64", SESSION_UID, "new.img"]),
                              ("new.img", ["run", "tag.img", "--out", "new.img"])):
             trial.expect(f"{' '.join(words)}, files of {most} bytes", words, WRONG, None,
-                         not_written(place, errno.EFBIG), feed=case.stream, preexec_fn=small_files(most))
+                         case.says_at_the_end(not_written(place, errno.EFBIG)), feed=case.stream,
+                         preexec_fn=small_files(most))
 
 
 def namespace(trial):
@@ -128,7 +176,7 @@ def full_disk(trial):
         return
     command = [*words, "sh", "-c", FULL_DISK, "sh", *trial.command]
     for place in ("disk/tag.img", "disk/new.img"):
-        line = not_written(place, errno.ENOSPC)
+        line = case.says_at_the_end(not_written(place, errno.ENOSPC))
         for what in (["factory", "64", SESSION_UID, place], ["run", "disk/tag.img", "--out", place]):
             trial.drop("copy/tag.img")
             trial.expect(f"{what[0]} to {place}, which is full", what, WRONG, None, line, {"copy/tag.img": case.image},

@@ -49,8 +49,9 @@ def example_commands(page):
 
 def help_pages(trial, session):
     """The list, each command's page by both words and among others, and every example on them."""
-    pages = [trial.run([word]) for word in ("--help", "-h")]
-    trial.hold_end("-h", pages[1], output=pages[0].output)
+    pages = [trial.run([word]) for word in ("--help", "-h", "help")]
+    for word, page in zip(("-h", "help"), pages[1:]):
+        trial.hold_end(word, page, output=pages[0].output)
     trial.hold_end("--help", pages[0], output=re.compile(rb"(?s).+\n"))
     trial.hold("--help: commands", named_commands(pages[0].output), list(COMMANDS))
     for command in COMMANDS:

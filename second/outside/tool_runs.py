@@ -15,7 +15,8 @@ from .runs import FIRST_SIGNAL_STATUS
 LIMIT = 120
 DONE, REFUSED, WRONG = 0, 1, 2  # exit statuses of the tool
 LATE = "no end within the limit"
-KEPT = b"what was there"
+KEPT = b"what was there"  # a note, which is no image, so that nothing may take its place
+NO_IMAGE = "no image is written"  # what a session that fails says last
 REPORT = re.compile(rb"Sanitizer|runtime error")  # of a build with sanitizers
 SOME_LINES = re.compile(rb"(uistermo: [^\n]*\n)+")  # all that is said begins so
 MOST_SHOWN = 40
@@ -83,6 +84,16 @@ def said(*texts):
 def lines_said(*patterns):
     """The same, where the words are left to the tool: a regular expression for each line."""
     return re.compile(b"".join(rb"uistermo: " + pattern + rb"\n" for pattern in patterns))
+
+
+def no_image_there(path):
+    """The line for a file that is there and that no image may replace."""
+    return said(f"{path}: not written: it is there and is no image")
+
+
+def failed(name, number, verb="not written: "):
+    """What a session says that fails: why, for this error number, and that no image is written."""
+    return said(f"{name}: {verb}{os.strerror(number)}", NO_IMAGE)
 
 
 def wrong_words(command, word=""):

@@ -7,7 +7,7 @@ from tagmodel.sizes import BLOCK_BYTES, HEADER_BYTES, SIZES, size_of_image
 
 from .tool_tags import WORDS, any_image, factory_image
 
-LOCK_NAMES = ("block 0", "block 1", "AFI", "DSFID", "configuration")  # bits 0 to 4 of byte 11
+LOCK_NAMES = ("block 0", "block 1", "AFI", "DSFID", "configuration (LOCK_CFG)")  # bits 0 to 4 of byte 11
 ALWAYS, SESSION, NEVER = "always", "in its session", "never"
 
 # 'Area 1 is always readable; write: 00 always, 01 and 10 in session, 11 never.'

@@ -1,6 +1,7 @@
 """Images to try the tool on, and the second model over them."""
 
 import io
+import re
 
 from generator import scenes
 from generator.dice import Dice
@@ -11,9 +12,17 @@ from tagmodel.lines import answer_lines
 from tagmodel.session import Session
 from tagmodel.sizes import HEADER_BYTES, SIZES, size_of_image
 
+from .tool_runs import KEPT, said
+
 SESSION_UID = "E002230401D6C8F0"
 PASSWORDS = slice(19, 51)
 WORDS = {SIZES[0]: "16", SIZES[1]: "64"}  # the tool's words for the two sizes
+STANDARD_INPUT = "standard input"
+# 'ON, OFF, EOF, or a request in upper-case hex without CRC, 2 to 128 digits, an even number'
+FORM = re.compile(rb"ON|OFF|EOF|([0-9A-F]{2}){1,64}")
+LONGEST_WITH_CR = 129  # the longest request, and a carriage return behind it
+PIECE = 65536
+CARRIAGE_RETURN = ", which ends in a carriage return; lines end in a newline alone"
 
 
 def factory_image(size, uid=SESSION_UID):
@@ -22,6 +31,13 @@ def factory_image(size, uid=SESSION_UID):
     registers = bytes((0, end, 0, end, 0, end, 0))
     image = bytes((size.mark,)) + bytes.fromhex(uid)[::-1] + bytes(3) + registers
     return image.ljust(size.image_bytes, b"\x00")
+
+
+# Files that an image may replace, by their length alone; and files that it may not.
+REPLACED = (factory_image(SIZES[0], "0123456789ABCDEF"), KEPT.ljust(SIZES[1].image_bytes, b"!"), b"")
+NOT_REPLACED = {
+    "a note": KEPT, "a session": b"ON\n022100A1A2A3A4\n", "one byte": b"\x00", "2,111 bytes": REPLACED[0][:-1],
+    "2,113 bytes": REPLACED[0] + b"\x00", "8,255 bytes": REPLACED[1][:-1], "8,257 bytes": REPLACED[1] + b"\x00"}
 
 
 def any_image(dice, size):
@@ -58,6 +74,30 @@ def followed(image, stream):
     session, sink = ImageSession(image), io.BytesIO()
     answer_lines(session.answer, io.BytesIO(stream), sink)
     return sink.getvalue(), session.image()
+
+
+def starts_of_lines(source):
+    """The lines of a file without their newlines; of a line that is too long for any form, the beginning."""
+    cut = LONGEST_WITH_CR + 2
+    start = source.readline(cut)
+    while start:
+        piece = start
+        while piece and not piece.endswith(b"\n"):
+            piece = source.readline(PIECE)
+        yield start[:-1] if start.endswith(b"\n") else start
+        start = source.readline(cut)
+
+
+def no_form_line(source, name=STANDARD_INPUT):
+    """What is said of the lines of no form of a session, a file or bytes: how many, and which is the first; or b''."""
+    wrong = number = 0
+    first = ""
+    for number, line in enumerate(starts_of_lines(io.BytesIO(source) if isinstance(source, bytes) else source), 1):
+        if not FORM.fullmatch(line):
+            wrong += 1
+            has_cr = len(line) <= LONGEST_WITH_CR and line.endswith(b"\r")
+            first = first or f"line {number}" + (CARRIAGE_RETURN if has_cr else "")
+    return said(f"{name}: lines of no form: {wrong} of {number}, the first is {first}") if wrong else b""
 
 
 def any_stream(dice, image, count, newline=True):

@@ -6,8 +6,8 @@ from generator import scenes
 from generator.dice import Dice
 from tagmodel.sizes import SIZES
 
-from .tool_runs import KEPT, REFUSED, SOME_LINES, said, wrong_words
-from .tool_tags import SESSION_UID, any_image, factory_image, refusal
+from .tool_runs import REFUSED, SOME_LINES, said, wrong_words
+from .tool_tags import REPLACED, SESSION_UID, any_image, factory_image, refusal
 
 LENGTHS = (0, 1, 63, 64, 2048, 2111, 2113, 8192, 8255, 8257, 20000, 300000)
 LONGEST_IMAGE = 8256
@@ -22,8 +22,10 @@ WRONG_WORDS = {  # the words after each command, with the one that has to be nam
     "factory": (([], ""), (["16"], ""), (["16", SESSION_UID], ""), (["tag.img"], ""),
                 (["-x", "16", SESSION_UID, "tag.img"], "-x"), (["16", SESSION_UID, "--out", "tag.img"], "--out"),
                 (["16", "--uid", SESSION_UID, "tag.img"], "--uid"), (["16", SESSION_UID, "-tag.img"], "-tag.img"),
-                (["-16", SESSION_UID, "tag.img"], "-16"), (["16", "-" + SESSION_UID, "tag.img"], "-" + SESSION_UID)),
-    "show": (([], ""), (["tag.img", "tag.img"], ""), (["tag.img", "session.txt", "tag.img"], ""), (["-x"], "-x"),
+                (["-16", SESSION_UID, "tag.img"], "-16"), (["16", "-" + SESSION_UID, "tag.img"], "-" + SESSION_UID),
+                (["16", SESSION_UID, "-"], "'-'"), (["16", *"E0 02 23 04 01 D6 C8 F0".split(), "-"], "'-'")),
+    "show": (([], ""), (["tag.img", "out.img"], "'out.img'"), (["tag.img", "session.txt", "tag.img"], ""),
+             (["-x"], "-x"), (["-"], "'-'"),
              (["tag.img", "--all"], "--all"), (["--out", "out.img", "tag.img"], "--out"), (["-tag.img"], "-tag.img")),
     "run": (([], ""), (["--out", "out.img"], ""), (["tag.img", "session.txt", "tag.img"], ""),
             (["tag.img", "-", "-"], ""), (["tag.img", "session.txt", "-", "--out", "out.img"], ""),
@@ -33,6 +35,8 @@ WRONG_WORDS = {  # the words after each command, with the one that has to be nam
             (["tag.img", "--out=out.img"], "--out=out.img"), (["tag.img", "-x"], "-x"),
             (["-o", "out.img", "tag.img"], "-o"), (["--in", "tag.img"], "--in"),
             (["tag.img", "-session.txt"], "-session.txt"), (["tag.img", "--"], "--"),
+            (["-"], "'-'"), (["-", "session.txt"], "'-'"), (["-", "--out", "out.img"], "'-'"),
+            (["tag.img", "--out", "-"], "-"), (["tag.img", "session.txt", "--out", "-"], "-"),
             (["--Out", "out.img", "tag.img"], "--Out"), (["tag.img", "---out", "out.img"], "---out")),
 }
 
@@ -47,7 +51,7 @@ def refusal_line(path, image):
 def refused_image(trial, what, image):
     """An image that loading refuses, by `show` and by `run`: number and words, and every file as it was."""
     trial.put("broken.img", image)
-    trial.put("out.img", KEPT)
+    trial.put("out.img", REPLACED[0])
     for words in (["show", "broken.img"], ["run", "broken.img"], ["run", "broken.img", "--out", "out.img"],
                   ["run", "--out", "new.img", "broken.img", "session.txt"]):
         trial.expect(f"{what}, {' '.join(words)}", words, REFUSED, b"", refusal_line("broken.img", image), feed=STREAM)
@@ -79,7 +83,7 @@ def wrong_word_lists(trial):
     trial.drop("new.img")
     trial.put("tag.img", factory_image(SIZES[0]))
     trial.put("session.txt", b"ON\n")
-    trial.put("out.img", KEPT)
+    trial.put("out.img", REPLACED[0])
     trial.put("-tag.img", factory_image(SIZES[0]))
     for command, lists in WRONG_WORDS.items():
         for words, named in lists:

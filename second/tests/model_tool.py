@@ -1,5 +1,7 @@
 """The tool bin/uistermo as the second model would do its work, so that the trials of it can be tried themselves."""
 
+import contextlib
+import io
 import os
 import re
 import signal
@@ -26,8 +28,11 @@ UID = re.compile(r"[0-9A-Fa-f]{2}([ :]*[0-9A-Fa-f]{2}){7}")
 REFUSALS = {4: "image is not 2,112 or 8,256 bytes",
             5: "image header breaks a rule, or byte 0 does not fit the image's length"}
 NEEDS = {"always": "always", "session": "in its session", "never": "never"}
-LOCKS = ("block 0", "block 1", "AFI", "DSFID", "configuration")
-SIGNALS = (signal.SIGINT, signal.SIGTERM, signal.SIGHUP)
+LOCKS = ("block 0", "block 1", "AFI", "DSFID", "configuration (LOCK_CFG)")
+SIGNALS = (signal.SIGINT, signal.SIGTERM, signal.SIGHUP, signal.SIGQUIT)
+REPLACED_LENGTHS = (0, 2112, 8256)
+NO_IMAGE = ("no image is written",)
+NOT_IMAGES = ("-",)
 
 
 class Stop(Exception):
@@ -63,17 +68,31 @@ def refuse_to_write(path, reason):
 def look_at(path):
     """Whether a file can be written here is seen before the work."""
     try:
-        mode = os.stat(path).st_mode
+        found = os.stat(path)
     except FileNotFoundError as error:
-        if not path or not os.path.isdir(os.path.dirname(os.path.abspath(path))):
+        if not path or os.path.islink(path) or not os.path.isdir(os.path.dirname(os.path.abspath(path))):
             raise refuse_to_write(path, error.strerror) from error
         return
     except OSError as error:
         raise refuse_to_write(path, error.strerror) from error
-    if stat.S_ISDIR(mode):
+    if stat.S_ISDIR(found.st_mode):
         raise refuse_to_write(path, "Is a directory")
-    if not mode & 0o222 or not os.access(path, os.W_OK):
+    if not found.st_mode & 0o222 or not os.access(path, os.W_OK):
         raise refuse_to_write(path, "Permission denied")
+    if stat.S_ISREG(found.st_mode) and found.st_size not in REPLACED_LENGTHS:
+        raise refuse_to_write(path, "it is there and is no image")
+
+
+def keep_owner(beside, found):
+    """Owner, group and permissions of the file that was there; without its group, without the group's permissions."""
+    mode = stat.S_IMODE(found.st_mode)
+    with contextlib.suppress(PermissionError):
+        os.chown(beside, found.st_uid, -1)
+    try:
+        os.chown(beside, -1, found.st_gid)
+    except PermissionError:
+        mode &= ~stat.S_IRWXG
+    os.chmod(beside, mode)
 
 
 def write_file(path, contents):
@@ -81,13 +100,13 @@ def write_file(path, contents):
     look_at(path)
     place = os.path.realpath(path)
     beside = os.path.join(os.path.dirname(place), f".uistermo-{os.getpid()}")
-    straight = os.path.exists(place) and not os.path.isfile(place)
+    straight = os.path.exists(path) and not os.path.isfile(path)
     try:
-        with open(place if straight else beside, "wb") as file:
+        with open(path if straight else beside, "wb") as file:
             file.write(contents)
         if not straight:
             if os.path.exists(place):
-                os.chmod(beside, stat.S_IMODE(os.stat(place).st_mode))
+                keep_owner(beside, os.stat(place))
             os.rename(beside, place)
     except OSError as error:
         if os.path.exists(beside):
@@ -99,7 +118,7 @@ def write_file(path, contents):
 
 
 def load(path):
-    """Record and memory of an image."""
+    """Record and memory of an image, and its bytes."""
     image = read_image(path)
     size = size_of_image(len(image)) or SIZES[0]
     memory = bytearray(size.memory_bytes)
@@ -108,7 +127,7 @@ def load(path):
         length = f"over {READ_MOST - 1:,}" if len(image) == READ_MOST else f"{len(image):,}"
         more = f"; it has {length} bytes" if result.number == 4 else ""
         raise Stop(1, f"{path}: refused {result.number}: {REFUSALS[result.number]}{more}")
-    return result.record, memory
+    return result.record, memory, image
 
 
 def save(path, record, memory):
@@ -123,6 +142,8 @@ def factory(*words):
     if len(words) < 3:
         raise wrong("factory", "words are missing")
     size, uid, path = words[0], " ".join(words[1:-1]), words[-1]
+    if UID.fullmatch(words[1]) and len(words) > 3:
+        raise wrong("factory", f"'{words[3]}' is a word too many")
     if size not in SIZE_WORDS:
         raise wrong("factory", f"{size}: a size is 16 or 64")
     if not UID.fullmatch(uid):
@@ -148,17 +169,17 @@ def area_text(record, blocks, area):
 
 def show(path):
     """show IMAGE"""
-    record, memory = load(path)
+    record, memory, _ = load(path)
     blocks = len(memory) // BLOCK_BYTES
     filled = sorted({at // BLOCK_BYTES for at, byte in enumerate(memory) if byte})
     locked = [LOCKS[bit] for bit in range(ALL_LOCKS.bit_length()) if record.is_locked(1 << bit)]
-    print(f"size      {blocks // 32} Kbit, {blocks:,} blocks of 4 bytes")
-    print(f"UID       {record.uid:016X}\nAFI       {record.afi:02X}h\nDSFID     {record.dsfid:02X}h")
-    print(f"locked    {', '.join(locked) if locked else 'nothing'}")
-    for area in (1, 2, 3, 4):
-        print(f"Area {area}    {area_text(record, blocks, area)}")
+    lines = [f"size      {blocks // 32} Kbit, {blocks:,} blocks of 4 bytes", f"UID       {record.uid:016X}",
+             f"AFI       {record.afi:02X}h", f"DSFID     {record.dsfid:02X}h",
+             f"locked    {', '.join(locked) if locked else 'nothing'}"]
+    lines += [f"Area {area}    {area_text(record, blocks, area)}" for area in (1, 2, 3, 4)]
     where = f"other than 00h in {len(filled):,} of {blocks:,} blocks, first in block {filled[0]:,}" if filled else ""
-    print(f"memory    {'not empty, ' + where if filled else 'empty, every byte is 00h'}")
+    lines += [f"memory    {'not empty, ' + where if filled else 'empty, every byte is 00h'}", ""]
+    answered("\n".join(lines).encode("ascii"))
 
 
 # ---- sessions
@@ -171,21 +192,50 @@ def interrupt(number, _):
     os.kill(os.getpid(), number)
 
 
-def lines_of(path):
+def listen():
+    """Interrupts are heard, but for those that are ignored already."""
+    for number in SIGNALS:
+        if not is_ignored(number):
+            signal.signal(number, interrupt)
+
+
+def is_ignored(number):
+    """Whether a signal was ignored at the start."""
+    return signal.getsignal(number) == signal.SIG_IGN
+
+
+def lines_of(path, name):
     """The lines of a session, each as soon as it has come."""
     try:
-        with open(0 if path == "-" else path, "rb") as source:
+        with open(0 if path == "-" else path, "rb", buffering=0) as raw:
+            source = io.BufferedReader(raw)
+            if source.isatty():
+                print("uistermo: Ctrl-D ends the session", file=sys.stderr, flush=True)
             yield from iter(source.readline, b"")
     except OSError as error:
-        raise Stop(2, f"{'standard input' if path == '-' else path}: {error.strerror}") from error
+        raise Stop(2, f"{name}: {error.strerror}", *NO_IMAGE) from error
 
 
-def answered(line):
-    """Writes one line of output, whole, before more is read."""
+def answered(line, *more):
+    """Writes output, whole, before more is read; where it cannot, more may be said."""
     try:
         os.write(1, line)
     except OSError as error:
-        raise Stop(2, f"standard output: {error.strerror}") from error
+        raise Stop(2, f"standard output: not written: {error.strerror}", *more) from error
+
+
+def hold_unchanged(path, loaded):
+    """An image that others changed meanwhile is theirs."""
+    if read_image(path) != loaded:
+        raise refuse_to_write(path, "it was changed during the session")
+
+
+def no_form_text(name, wrong, count):
+    """How many lines are of no form, and which is the first of them: `wrong` has their numbers and bytes."""
+    number, line = wrong[0]
+    has_cr = line.endswith(b"\r") and len(line) <= 129
+    return (f"{name}: lines of no form: {len(wrong)} of {count}, the first is line {number}" +
+            (", which ends in a carriage return; lines end in a newline alone" if has_cr else ""))
 
 
 def run(*words):
@@ -199,14 +249,29 @@ def run(*words):
         words[at:at + 2] = []
     if len(words) not in (1, 2):
         raise wrong("run", "an image, and at most one session")
+    if words[0] in NOT_IMAGES or out in NOT_IMAGES:
+        raise wrong("run", "'-' is no file to load or write")
+    listen()
+    follow(words[0], words[1] if len(words) == 2 else "-", words[0] if out is None else out, out is None)
+
+
+def follow(path, source, out, is_back):
+    """Runs the session of `source` over the image of `path`, and writes what is left."""
+    session, wrong_lines, name = Session(), [], "standard input" if source == "-" else source
+    session.record, session.memory, loaded = load(path)
+    look_at(out)
+    for line in lines_of(source, name):
+        line = line[:-1] if line.endswith(b"\n") else line
+        answer = session.answer(line)
+        answered(answer.encode("ascii") + b"\n", *NO_IMAGE)
+        wrong_lines += [(session.number, line)] if answer.endswith("?") else []
     for number in SIGNALS:
-        signal.signal(number, interrupt)
-    session = Session()
-    session.record, session.memory = load(words[0])
-    look_at(out if out is not None else words[0])
-    for line in lines_of(words[1] if len(words) == 2 else "-"):
-        answered(session.answer(line[:-1] if line.endswith(b"\n") else line).encode("ascii") + b"\n")
-    save(out if out is not None else words[0], session.record, session.memory)
+        signal.signal(number, signal.SIG_IGN)
+    if is_back:
+        hold_unchanged(path, loaded)
+    save(out, session.record, session.memory)
+    if wrong_lines:
+        print(f"uistermo: {no_form_text(name, wrong_lines, session.number)}", file=sys.stderr)
 
 
 COMMANDS = {"factory": factory, "show": show, "run": run}
@@ -217,7 +282,7 @@ def do(words):
     if not words:
         raise Stop(2, *USAGE.values())
     command, rest = words[0], words[1:]
-    if command in ("-h", "--help"):
+    if command in ("-h", "--help", "help"):
         print("\n".join(USAGE.values()))
     elif command not in COMMANDS:
         raise Stop(2, f"{command}: no command; the commands are factory, show and run")
@@ -230,13 +295,14 @@ def do(words):
             if word.startswith("-") and word != "-" and (word, command) != ("--out", "run"):
                 raise wrong(command, f"{word}: no option of {command}")
         if command == "show" and len(rest) != 1:
-            raise wrong(command, "one image")
+            raise wrong(command, f"'{rest[1]}' is a word too many" if rest else "one image")
+        if command != "run" and rest and rest[-1] in NOT_IMAGES:
+            raise wrong(command, "'-' is no image")
         COMMANDS[command](*rest)
 
 
 def main(words):
     """The exit status."""
-    signal.signal(signal.SIGPIPE, signal.SIG_DFL)
     try:
         do(words)
         sys.stdout.flush()

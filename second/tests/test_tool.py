@@ -4,13 +4,14 @@ import contextlib
 import errno
 import io
 import os
+import signal
 import sys
 import tempfile
 import unittest
 
 from generator.dice import Dice
-from outside import (tool_factory, tool_files, tool_interrupts, tool_limits, tool_pages, tool_sessions, tool_show,
-                     tool_tags, tool_words)
+from outside import (tool_factory, tool_files, tool_interrupts, tool_limits, tool_meanwhile, tool_pages,
+                     tool_sessions, tool_show, tool_tags, tool_words)
 from outside.bad_input import Settings
 from outside.tool_runs import KEPT, Trial, changes, snapshot, wrong_words
 from tagmodel import rights
@@ -34,6 +35,7 @@ A factory tag, and a session on it:
     1 -
     2 0000F0C8D601042302E064A3
     3 ?
+    uistermo: standard input: lines of no form: 1 of 3, the first is line 3
     not printed, were it not here
 and so on
 
@@ -76,16 +78,17 @@ def too_long(trial):
 
 
 def factory(trial):
-    """One UID in two spellings."""
+    """One UID in three spellings, over no file, an image and an empty file."""
     uid = tool_factory.UIDS[4]
-    for size, way in ((SMALL, 0), (LARGE, 15)):
-        tool_factory.one_factory(trial, size, uid, tool_factory.spellings(uid)[way], way)
+    for size, way, there in ((SMALL, 0, None), (LARGE, 15, tool_tags.REPLACED[0]), (LARGE, 17, b"")):
+        tool_factory.one_factory(trial, size, uid, tool_factory.spellings(uid)[way], there)
+    trial.refuses("a word too many", ["factory", "16", uid, "a.img", "b.img"], wrong_words("factory", "'b.img'"))
     trial.refuses("a UID", ["factory", "16", "E0-02", "new.img"], wrong_words("factory", "E0-02"))
 
 
 def show(trial):
     """Two images, one of them with a password and a protection of its own for each area."""
-    registers = {12: 5, 13: 12, 14: 10, 15: 13, 16: 15, 17: 254, 18: 2}
+    registers = {11: 31, 12: 5, 13: 12, 14: 10, 15: 13, 16: 15, 17: 254, 18: 2}
     tool_show.show_one(trial, "three borders", tool_show.altered(tool_tags.any_image(Dice(5), LARGE), registers))
     tool_show.show_one(trial, "factory", tool_tags.factory_image(SMALL))
 
@@ -99,6 +102,9 @@ def words(trial):
     """A wrong word, a command that is none, and no words."""
     trial.put("tag.img", tool_tags.factory_image(SMALL))
     trial.refuses("an option", ["run", "tag.img", "--on"], wrong_words("run", "--on"))
+    trial.refuses("a word too many", ["show", "tag.img", "b.img"], wrong_words("show", "'b.img'"))
+    for command, rest in (("factory", ["16", tool_tags.SESSION_UID]), ("show", []), ("run", ["tag.img", "--out"])):
+        trial.refuses("no file's name", [command, *rest, "-"], wrong_words(command, "-"))
     tool_words.wrong_command(trial, "shows")
     tool_words.no_words(trial)
 
@@ -113,7 +119,8 @@ def not_a_place(trial):
     """A folder and a read-only file as files to write."""
     tool_files.folders(trial)
     tool_files.unwritable_place(trial, "folder")
-    trial.put("only.img", KEPT, 0o444)
+    tool_files.unwritable_place(trial, "nowhere", errno.ENOENT)
+    trial.put("only.img", tool_tags.factory_image(SMALL), 0o444)
     tool_files.unwritable_place(trial, "only.img")
 
 
@@ -122,11 +129,44 @@ def small_files(trial):
     tool_limits.file_size_limits(trial, (1000,))
 
 
-def interrupt(trial):
-    """One signal of the three."""
+def interrupt(trial, number=signal.SIGINT):
+    """One signal of the four."""
     image = tool_tags.factory_image(SMALL)
     trial.put("tag.img", image)
-    tool_interrupts.interrupted(trial, tool_interrupts.SIGNALS[0], image, ["run", "tag.img"], b"02")
+    tool_interrupts.interrupted(trial, number, image, ["run", "tag.img"], b"02")
+
+
+def quit_signal(trial):
+    """Another, before a line is read and after some."""
+    interrupt(trial, signal.SIGQUIT)
+    tool_interrupts.interrupted_before_a_line(trial, signal.SIGQUIT)
+
+
+def ignored(trial):
+    """A signal that is ignored."""
+    tool_interrupts.ignored_signals(trial, signal.SIGHUP, tool_tags.factory_image(SMALL))
+
+
+def end_of_input(trial):
+    """Two signals at the end of a session."""
+    for wait in (0, 0.01):
+        tool_interrupts.at_the_end(trial, signal.SIGTERM, tool_tags.factory_image(SMALL), wait)
+
+
+def no_forms(trial):
+    """Some sessions with lines of no form."""
+    tool_sessions.no_forms(trial, tool_sessions.NO_FORMS[5:15:3])
+
+
+def other_files(trial):
+    """A note, which stays."""
+    tool_files.other_files(trial, ("a note",))
+
+
+def no_reader(trial):
+    """Answers that nobody takes."""
+    trial.put("tag.img", tool_tags.factory_image(SMALL))
+    tool_files.no_reader(trial)
 
 
 def line_by_line(trial):
@@ -143,7 +183,7 @@ class Model(unittest.TestCase):
         self.assertEqual(faults(MODEL, *trials), (0, ""))
 
     def test_commands(self):
-        self.no_fault(factory, show, one_session, tool_sessions.printed_session,
+        self.no_fault(factory, show, one_session, tool_sessions.printed_session, no_forms,
                       lambda trial: tool_sessions.sessions(trial, 1),
                       lambda trial: tool_sessions.streams(trial, 1, 300))
 
@@ -152,11 +192,15 @@ class Model(unittest.TestCase):
 
     def test_files(self):
         self.no_fault(not_a_place, lambda trial: tool_files.unreadable_file(trial, "none/tag.img", errno.ENOENT), link,
-                      tool_files.pipes, small_files)
-        self.assertEqual(faults(MODEL, tool_files.devices)[0], 0)  # a line says so where another user cannot reach it
+                      tool_files.pipes, small_files, other_files, tool_files.new_files, no_reader,
+                      tool_meanwhile.meanwhile)
+
+    def test_files_as_the_system_lets_them_be(self):
+        """A line says what is not tried, where the user may make no devices or another user cannot reach the tool."""
+        self.assertEqual(faults(MODEL, tool_files.devices, tool_files.to_streams, tool_limits.other_user)[0], 0)
 
     def test_interrupts(self):
-        self.no_fault(interrupt, line_by_line)
+        self.no_fault(interrupt, line_by_line, quit_signal, ignored, end_of_input)
 
     def test_pages(self):
         self.no_fault(lambda trial: tool_pages.help_pages(trial, SESSION))
@@ -182,18 +226,28 @@ class Wrong(unittest.TestCase):
 
     def test_a_tool_that_does_nothing(self):
         for run in (factory, show, one_session, broken, too_long, words, link, not_a_place, small_files, interrupt,
-                    line_by_line, tool_files.devices, tool_files.pipes,
+                    line_by_line, ignored, no_reader, tool_files.pipes, other_files, tool_files.to_streams,
+                    tool_meanwhile.no_image_any_more, no_forms,
                     lambda trial: tool_pages.help_pages(trial, SESSION)):
             self.assertGreater(faults(["true"], run)[0], 0, run)
+
+    def test_devices_that_nothing_is_written_to(self):
+        count, printed = faults(["true"], tool_files.devices)
+        self.assertTrue(count or "devices are not tried" in printed)
 
     def test_answers(self):
         self.assertIn("standard output: expected 22 bytes, '1 -\n2 0078F0", self.found("one-digit", one_session))
         self.assertIn("answer to b'ON'", self.found("late-answers", line_by_line, limit=2))
         self.assertIn("refused 5: image header breaks", self.found("refusals", broken))
         self.assertIn("it has over 8,256 bytes", self.found("refusals", too_long))
+        self.assertIn("the first is line 3", self.found("line-numbers", no_forms))
+        self.assertIn("no image is written", self.found("one-line", no_reader))
+        self.assertIn("file status", self.found("closed-pipe", no_reader))
+        self.assertIn("no file's name", self.found("dash", words))
 
     def test_what_is_shown(self):
         self.assertIn("password 2", self.found("another-area", show))
+        self.assertIn("(LOCK_CFG)", self.found("lock-names", show))
         self.assertIn("passwords shown: expected [], found [0, 1, 2, 3]", self.found("passwords", show))
 
     def test_files(self):
@@ -202,9 +256,18 @@ class Wrong(unittest.TestCase):
         self.assertIn("file near: ", self.found("over-the-link", link))
         self.assertIn("mode 100640 became 100600", self.found("permissions", link))
         self.assertIn("bytes of the session read", self.found("no-look", not_a_place))
+        self.assertIn("factory to 'a note'", self.found("any-file", other_files))
+        self.assertIn("a link led elsewhere", self.found("others-work", tool_meanwhile.another_image))
+
+    @unittest.skipIf(os.geteuid(), "files of other owners are made by root")
+    def test_owners(self):
+        count, printed = faults(wrong_tool("group"), tool_limits.other_user)
+        self.assertTrue("mode 100664 became 100604" in printed if count else "is not tried" in printed, printed)
 
     def test_interrupts(self):
         self.assertIn("SIGINT, run tag.img: status: expected -2", self.found("quiet-interrupt", interrupt))
+        self.assertIn("SIGQUIT, run tag.img: standard error", self.found("three-signals", quit_signal))
+        self.assertIn("SIGHUP ignored: status: expected 0", self.found("ignored-signals", ignored))
 
 
 class Expected(unittest.TestCase):
@@ -227,12 +290,17 @@ class Expected(unittest.TestCase):
         image = tool_show.altered(tool_tags.factory_image(SMALL), {13: 12, 14: 9, 64: 1, 72: 1, 11: 0x12, 9: 0xAB})
         self.assertEqual(tool_show.shown_lines(image).decode("ascii").split("\n"), [
             "size      16 Kbit, 512 blocks of 4 bytes", "UID       E002230401D6C8F0", "AFI       ABh", "DSFID     00h",
-            "locked    block 1, configuration",
+            "locked    block 1, configuration (LOCK_CFG)",
             "Area 1    blocks 0 to 103, protection 00, no password: read always, write always",
             "Area 2    blocks 104 to 511, protection 10, password 1: read in its session, write in its session",
             "Area 3    no blocks, protection 00, no password: read always, write always",
             "Area 4    no blocks, protection 00, no password: read always, write always",
             "memory    not empty, other than 00h in 2 of 512 blocks, first in block 0", ""])
+
+    def test_lines_of_no_form(self):
+        for stream, text in tool_sessions.NO_FORMS:
+            expected = f"uistermo: a name: lines of no form: {text}\n" if text else ""
+            self.assertEqual(tool_tags.no_form_line(stream, "a name").decode("ascii"), expected, stream[:40])
 
     def test_leaks(self):
         image = tool_tags.any_image(Dice(3), SMALL)

@@ -2,6 +2,7 @@
 
 import os
 import shutil
+import signal
 import sys
 
 sys.dont_write_bytecode = True
@@ -11,7 +12,7 @@ from tests import model_tool
 
 WAITING = []
 look_at, write_file = model_tool.look_at, model_tool.write_file
-answered, area_text = model_tool.answered, model_tool.area_text
+answered, area_text, no_form_text = model_tool.answered, model_tool.area_text, model_tool.no_form_text
 
 
 def write_in_place(path, contents):
@@ -43,15 +44,15 @@ def write_with_new_permissions(path, contents):
     os.chmod(path, 0o600)
 
 
-def answer_one_digit_off(line):
+def answer_one_digit_off(line, *more):
     """A success's CRC ends in 1."""
-    answered(line.replace(b"0078F0", b"0078F1"))
+    answered(line.replace(b"0078F0", b"0078F1"), *more)
 
 
-def answer_late(line):
+def answer_late(line, *more):
     """Each answer comes when the next line has been read."""
     for earlier in WAITING:
-        answered(earlier)
+        answered(earlier, *more)
     WAITING[:] = [line]
 
 
@@ -75,6 +76,26 @@ def look_at_nothing(path):
     """Nothing is looked at before the session."""
 
 
+def hold_nothing(path, loaded):
+    """What others wrote meanwhile is lost."""
+
+
+def keep_permissions(beside, found):
+    """A group that is not kept leaves its permissions to another."""
+    os.chmod(beside, found.st_mode & 0o777)
+
+
+def count_from_nothing(name, wrong, count):
+    """Lines are counted from 0."""
+    return no_form_text(name, [(wrong[0][0] - 1, wrong[0][1]), *wrong[1:]], count)
+
+
+def end_at_a_closed_pipe(line, *more):
+    """SIGPIPE ends it."""
+    signal.signal(signal.SIGPIPE, signal.SIG_DFL)
+    answered(line, *more)
+
+
 WRONG = {
     "in-place": ("write_file", write_in_place),
     "over-the-link": ("write_file", write_over_the_link),
@@ -86,6 +107,16 @@ WRONG = {
     "passwords": ("area_text", show_passwords),
     "quiet-interrupt": ("interrupt", end_quietly),
     "no-look": ("look_at", look_at_nothing),
+    "any-file": ("REPLACED_LENGTHS", range(1000000)),
+    "others-work": ("hold_unchanged", hold_nothing),
+    "one-line": ("NO_IMAGE", ()),
+    "closed-pipe": ("answered", end_at_a_closed_pipe),
+    "line-numbers": ("no_form_text", count_from_nothing),
+    "three-signals": ("SIGNALS", model_tool.SIGNALS[:3]),
+    "ignored-signals": ("is_ignored", lambda number: False),
+    "lock-names": ("LOCKS", ("block 0", "block 1", "AFI", "DSFID", "configuration")),
+    "dash": ("NOT_IMAGES", ()),
+    "group": ("keep_owner", keep_permissions),
     "refusals": ("REFUSALS", {4: "the image has a wrong length", 5: "the image is broken"}),
 }
 
