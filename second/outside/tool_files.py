@@ -77,7 +77,7 @@ def unreadable_file(trial, name, number):
     trial.refuses(f"run {shown} --out", ["run", name, "--out", "out.img"], line, feed=STREAM)
     either = re.escape(name.encode("ascii")) + rb": (not written: )?" + re.escape(os.strerror(number).encode("ascii"))
     trial.refuses(f"run {shown}", ["run", name], lines_said(either), feed=STREAM)
-    opens = number in (errno.EISDIR, errno.EIO)  # then a line cannot be read; else the words may be either's
+    opens = number in (errno.EISDIR, errno.EIO)  # then it fails at its first line; else the second line is left open
     line = failed(name, number, "") if opens else re.compile(re.escape(line) + b"(" + re.escape(said(NO_IMAGE)) + b")?")
     trial.refuses(f"session {shown}", ["run", "tag.img", name], line, feed=STREAM)
     trial.refuses(f"session {shown} --out", ["run", "tag.img", name, "--out", "new.img"], line)
@@ -250,12 +250,14 @@ def stream_places(trial, first, third, ways):
     trial.put("answers", b"", 0o666)
     trial.expect(f"run --out {third}", ["run", "tag.img", "--out", third], output=case.left, errors=case.said,
                  feed=case.stream, command=command, written={"answers": case.output}, **ways)
-    os.makedirs(trial.path("open"), exist_ok=True)
+    os.mkdir(trial.path("open"))
     os.chmod(trial.path("open"), 0o777)
     trial.put("open/answers", b"", 0o666)
     command = ["sh", "-c", 'exec "$@" >open/answers', "sh", *trial.command]
     trial.expect(f"run --out {first}, which is a file", words, WRONG, b"", case.says_at_the_end(no_image_there(first)),
                  {"open/answers": case.output}, feed=case.stream, command=command, **ways)
+    trial.drop("answers", "open/answers")
+    os.rmdir(trial.path("open"))
 
 
 def pipes(trial):

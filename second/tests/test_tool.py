@@ -13,7 +13,7 @@ from generator.dice import Dice
 from outside import (tool_factory, tool_files, tool_interrupts, tool_limits, tool_meanwhile, tool_pages,
                      tool_sessions, tool_show, tool_tags, tool_words)
 from outside.bad_input import Settings
-from outside.tool_runs import KEPT, Trial, changes, snapshot, wrong_words
+from outside.tool_runs import KEPT, Trial, changes, said, snapshot, wrong_words
 from tagmodel import rights
 from tagmodel.record import factory_record
 
@@ -137,9 +137,14 @@ def interrupt(trial, number=signal.SIGINT):
 
 
 def quit_signal(trial):
-    """Another, before a line is read and after some."""
+    """Another of them."""
     interrupt(trial, signal.SIGQUIT)
-    tool_interrupts.interrupted_before_a_line(trial, signal.SIGQUIT)
+
+
+def before_a_line(trial):
+    """A signal while a pipe is waited for."""
+    trial.put("tag.img", tool_tags.factory_image(SMALL))
+    tool_interrupts.interrupted_before_a_line(trial, signal.SIGINT)
 
 
 def ignored(trial):
@@ -154,8 +159,16 @@ def end_of_input(trial):
 
 
 def no_forms(trial):
-    """Some sessions with lines of no form."""
-    tool_sessions.no_forms(trial, tool_sessions.NO_FORMS[5:15:3])
+    """Two sessions with lines of no form."""
+    tool_sessions.no_forms(trial, tool_sessions.NO_FORMS[5:9:3])
+
+
+def changed(trial):
+    """An image that another one replaces meanwhile."""
+    tool_meanwhile.start_again(trial)
+    tool_meanwhile.with_a_change(trial, "a new image", ["run", "tag.img"],
+                                 lambda: trial.put("tag.img", tool_tags.any_image(Dice(1), SMALL)),
+                                 said(f"tag.img: {tool_meanwhile.CHANGED}"))
 
 
 def other_files(trial):
@@ -192,15 +205,14 @@ class Model(unittest.TestCase):
 
     def test_files(self):
         self.no_fault(not_a_place, lambda trial: tool_files.unreadable_file(trial, "none/tag.img", errno.ENOENT), link,
-                      tool_files.pipes, small_files, other_files, tool_files.new_files, no_reader,
-                      tool_meanwhile.meanwhile)
+                      tool_files.pipes, small_files, other_files, no_reader, tool_meanwhile.meanwhile)
 
     def test_files_as_the_system_lets_them_be(self):
         """A line says what is not tried, where the user may make no devices or another user cannot reach the tool."""
         self.assertEqual(faults(MODEL, tool_files.devices, tool_files.to_streams, tool_limits.other_user)[0], 0)
 
     def test_interrupts(self):
-        self.no_fault(interrupt, line_by_line, quit_signal, ignored, end_of_input)
+        self.no_fault(interrupt, line_by_line, quit_signal, before_a_line, ignored, end_of_input)
 
     def test_pages(self):
         self.no_fault(lambda trial: tool_pages.help_pages(trial, SESSION))
@@ -237,7 +249,7 @@ class Wrong(unittest.TestCase):
 
     def test_answers(self):
         self.assertIn("standard output: expected 22 bytes, '1 -\n2 0078F0", self.found("one-digit", one_session))
-        self.assertIn("answer to b'ON'", self.found("late-answers", line_by_line, limit=2))
+        self.assertIn("answer to b'ON'", self.found("late-answers", line_by_line, limit=1))
         self.assertIn("refused 5: image header breaks", self.found("refusals", broken))
         self.assertIn("it has over 8,256 bytes", self.found("refusals", too_long))
         self.assertIn("the first is line 3", self.found("line-numbers", no_forms))
@@ -257,7 +269,7 @@ class Wrong(unittest.TestCase):
         self.assertIn("mode 100640 became 100600", self.found("permissions", link))
         self.assertIn("bytes of the session read", self.found("no-look", not_a_place))
         self.assertIn("factory to 'a note'", self.found("any-file", other_files))
-        self.assertIn("a link led elsewhere", self.found("others-work", tool_meanwhile.another_image))
+        self.assertIn("a new image, run tag.img: standard error", self.found("others-work", changed))
 
     @unittest.skipIf(os.geteuid(), "files of other owners are made by root")
     def test_owners(self):
