@@ -13,7 +13,7 @@ static const char help[] =
     "  16|64   the size: 16 Kbit (512 blocks, 2,048 bytes) or 64 Kbit (2,048 blocks, 8,192 bytes)\n"
     "  UID     16 hex digits, highest byte first, as on a label (answers have it lowest byte first); spaces and colons between\n"
     "          bytes are taken too\n"
-    "  IMAGE   the file that is written; an image that is there is replaced, and any other file is not\n"
+    "  IMAGE   the file that is written; an image that is there is replaced, but no file of another length, unless it is empty\n"
     "\n"
     "Examples:\n"
     "  bin/uistermo factory 16 E002230401D6C8F0 tag.img\n"

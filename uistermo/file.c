@@ -1,11 +1,12 @@
 /* Reading and replacing files. */
-#define _XOPEN_SOURCE 700 /* realpath, mkstemp, sigprocmask */
+#define _DEFAULT_SOURCE /* realpath, mkstemp, sigprocmask, flock */
 #include <errno.h>
 #include <fcntl.h>
 #include <signal.h>
 #include <stdio.h>
 #include <stdlib.h>
 #include <string.h>
+#include <sys/file.h>
 #include <sys/stat.h>
 #include <unistd.h>
 
@@ -34,6 +35,12 @@ int is_plain_file(const char *path, size_t *length)
     return 1;
 }
 
+int is_same_file(const char *one, const char *other)
+{
+    struct stat s, t;
+    return stat(one, &s) == 0 && stat(other, &t) == 0 && s.st_dev == t.st_dev && s.st_ino == t.st_ino;
+}
+
 /* ---- where a file is written. These give 0, or the error number of the system */
 
 /* The file that a path leads to: a symbolic link's end; or the path itself where that is no plain file, or nothing is there. To be freed; NULL, with
@@ -48,30 +55,26 @@ static char *place_of(const char *path)
     return strdup(path);
 }
 
-/* The name of a file beside a place, for mkstemp; to be freed. It does not grow with the place's own name, which may be as long as one can be. */
-static char *beside(const char *place)
+/* A name in the folder of a place; to be freed. */
+static char *in_folder(const char *place, const char *name)
 {
-    static const char name[] = ".uistermo-XXXXXX";
     const char *slash = strrchr(place, '/');
     size_t folder = slash ? (size_t)(slash + 1 - place) : 0;
-    char *path = malloc(folder + sizeof name);
+    char *path = malloc(folder + strlen(name) + 1);
     if (path) {
         memcpy(path, place, folder);
-        memcpy(path + folder, name, sizeof name);
+        strcpy(path + folder, name);
     }
     return path;
 }
 
 static int folder_writable(const char *place)
 {
-    char *path = beside(place);
-    if (!path)
+    char *folder = in_folder(place, ".");
+    if (!folder)
         return ENOMEM;
-    char *slash = strrchr(path, '/');
-    if (slash)
-        slash[1] = '\0';
-    int error = access(slash ? path : ".", W_OK | X_OK) == 0 ? 0 : errno;
-    free(path);
+    int error = access(folder, W_OK | X_OK) == 0 ? 0 : errno;
+    free(folder);
     return error;
 }
 
@@ -166,15 +169,12 @@ static int replace(const char *place, char *name, const uint8_t *bytes, size_t l
 static int put_file(const char *place, const uint8_t *bytes, size_t length)
 {
     struct stat s;
-    int error = writable(place);
-    if (error)
-        return error;
     if (stat(place, &s) == 0 && !S_ISREG(s.st_mode))
         return put_straight(place, bytes, length);
-    char *name = beside(place);
+    char *name = in_folder(place, ".uistermo-XXXXXX"); /* it does not grow with the place's own name, which may be as long as one can be */
     if (!name)
         return ENOMEM;
-    error = replace(place, name, bytes, length);
+    int error = replace(place, name, bytes, length);
     free(name);
     return error;
 }
@@ -185,4 +185,21 @@ enum status write_file(const char *path, const uint8_t *bytes, size_t length)
     int error = place ? put_file(place, bytes, length) : errno;
     free(place);
     return error ? unwritten(path, strerror(error)) : DONE;
+}
+
+int lock_folder(const char *path)
+{
+    char *place = place_of(path), *folder = place ? in_folder(place, ".") : NULL;
+    int lock = folder ? open(folder, O_RDONLY) : -1;
+    if (lock >= 0)
+        flock(lock, LOCK_EX);
+    free(folder);
+    free(place);
+    return lock;
+}
+
+void unlock_folder(int lock)
+{
+    if (lock >= 0)
+        close(lock);
 }

@@ -15,11 +15,12 @@ static const char help[] =
     "\n"
     "  IMAGE        the tag; the field is off at the start\n"
     "  SESSION      the file with the session's lines; without it, or with -, standard input (from a keyboard, Ctrl-D ends it)\n"
-    "  --out FILE   writes the image to FILE, and IMAGE stays as it is; an image that is there is replaced, any other file is not\n"
+    "  --out FILE   writes the image to FILE, and IMAGE stays as it is; an image that is there is replaced, but no file of another\n"
+    "               length, unless it is empty\n"
     "\n"
     "A line of a session is ON or OFF (the field), EOF (an end of frame), or a request in upper-case hex without its CRC, 2 to\n"
-    "128 digits; it ends in a newline alone. Each is answered by its number and the tag's answer in hex, with its CRC; - is\n"
-    "silence, and ? is a line of no such form, which is no event.\n"
+    "128 digits, an even number. It ends in a newline alone, which the last may lack. Each is answered by its number and the\n"
+    "tag's answer in hex, with its CRC; - is silence, and ? is a line of no such form, which is no event.\n"
     "The image keeps the lasting parts: after the session the field is off. It is written when all lines are answered, beside\n"
     "the old one and then in its place: after an interrupt, or where lines cannot be read, answers not be printed or the image\n"
     "not be written, the old one is as it was.\n"
@@ -92,18 +93,32 @@ static enum status can_end(const struct command *self, const struct asked *a)
     return can_save(a->out ? a->out : a->image);
 }
 
+static enum status no_image(enum status why)
+{
+    fprintf(stderr, "uistermo: no image is written\n");
+    return why;
+}
+
 /* Who else wrote the image meanwhile, in another session perhaps, is not to lose that. */
-static enum status end(const struct asked *a, const struct image *loaded, const struct tag *tag)
+static enum status write_back(const char *path, const struct image *loaded, const struct tag *tag)
 {
     struct image now;
-    if (a->out)
-        return save_image(a->out, tag);
-    enum status status = read_file(a->image, now.bytes, sizeof now.bytes, &now.length);
+    enum status status = read_file(path, now.bytes, sizeof now.bytes, &now.length);
     if (status != DONE)
-        return status;
+        return no_image(status);
     if (now.length != loaded->length || memcmp(now.bytes, loaded->bytes, now.length) != 0)
-        return unwritten(a->image, "it was changed during the session");
-    return save_image(a->image, tag);
+        return unwritten(path, "it was changed during the session");
+    return save_image(path, tag);
+}
+
+static enum status end(const struct asked *a, const struct image *loaded, const struct tag *tag)
+{
+    if (a->out && !is_same_file(a->out, a->image))
+        return save_image(a->out, tag);
+    int lock = lock_folder(a->image); /* two sessions that end at once look and write one after the other */
+    enum status status = write_back(a->image, loaded, tag);
+    unlock_folder(lock);
+    return status;
 }
 
 static enum status run_session(const struct asked *a, const struct image *loaded, struct session *s)
@@ -119,12 +134,10 @@ static enum status run_session(const struct asked *a, const struct image *loaded
     enum status status = run_lines(s, source, name);
     if (!standard)
         close(source);
-    if (status == DONE) {
-        say_formless(s, name);
-        return end(a, loaded, &s->tag);
-    }
-    fprintf(stderr, "uistermo: no image is written\n");
-    return status;
+    if (status != DONE)
+        return no_image(status);
+    say_formless(s, name);
+    return end(a, loaded, &s->tag);
 }
 
 static enum status run(const struct command *self, char **words, int count)

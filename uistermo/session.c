@@ -139,6 +139,8 @@ enum status run_lines(struct session *s, int source, const char *name)
 void say_formless(const struct session *s, const char *name)
 {
     if (s->formless > 0)
-        fprintf(stderr, "uistermo: %s: lines of no form: %" PRIu64 " of %" PRIu64 ", the first is line %" PRIu64 "%s\n", name, s->formless, s->number,
-                s->first, s->first_has_return ? ", which ends in a carriage return; lines end in a newline alone" : "");
+        fprintf(stderr,
+                "uistermo: %s: lines of no form: %" PRIu64 " of %" PRIu64 ", the first is line %" PRIu64
+                "%s; a line is ON, OFF, EOF or upper-case hex, and ends in a newline alone\n",
+                name, s->formless, s->number, s->first, s->first_has_return ? ", which ends in a carriage return" : "");
 }

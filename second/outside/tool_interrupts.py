@@ -25,8 +25,13 @@ INTERRUPTED = re.compile(re.escape(said("interrupted; no image is written")) +
                          rb"(qemu: uncaught target signal 3 [^\n]*\n)?")
 
 
-def leave_no_core():
-    """In a child, before the tool starts: SIGQUIT is to leave no copy of its memory."""
+def hear_signals():
+    """In a child, before the tool starts: no signal is ignored, as some are where this is started in the background.
+
+    SIGQUIT is to leave no copy of the tool's memory.
+    """
+    for number in SIGNALS:
+        signal.signal(number, signal.SIG_DFL)
     resource.setrlimit(resource.RLIMIT_CORE, (0, 0))
 
 
@@ -58,7 +63,7 @@ def talk(trial, what, program, stream, output):
 def interrupted(trial, number, image, words, part_of_a_line):
     """The tool is ended by this signal; it says so, and the folder is as it was."""
     what, before = f"{signal.Signals(number).name}, {' '.join(words)}", snapshot(trial.folder)
-    with trial.start(words, bufsize=0, preexec_fn=leave_no_core) as program:
+    with trial.start(words, bufsize=0, preexec_fn=hear_signals) as program:
         talk(trial, what, program, WRITES, followed(image, WRITES)[0])
         if program.poll() is None:
             program.stdin.write(part_of_a_line)
@@ -72,7 +77,7 @@ def interrupted_while_it_writes(trial, number, image):
     what = f"{signal.Signals(number).name}, answers not taken"
     trial.put("session.txt", WRITES + b"022000\n" * MANY_LINES)
     before = snapshot(trial.folder)
-    with trial.start(["run", "tag.img", "session.txt"], bufsize=0, preexec_fn=leave_no_core) as program:
+    with trial.start(["run", "tag.img", "session.txt"], bufsize=0, preexec_fn=hear_signals) as program:
         trial.hold(f"{what}: first answer", answer_of(program, trial.limit), followed(image, b"ON\n")[0])
         time.sleep(TO_FILL_A_PIPE)
         program.send_signal(number)
@@ -85,7 +90,7 @@ def interrupted_before_a_line(trial, number):
     what = f"{signal.Signals(number).name}, a pipe without a writer"
     os.mkfifo(trial.path("pipe"))
     before = snapshot(trial.folder)
-    with trial.start(["run", "tag.img", "pipe"], preexec_fn=leave_no_core) as program:
+    with trial.start(["run", "tag.img", "pipe"], preexec_fn=hear_signals) as program:
         time.sleep(TO_START)
         program.send_signal(number)
         trial.hold_end(what, trial.end(program), -number, b"", INTERRUPTED)
@@ -114,7 +119,7 @@ def at_the_end(trial, number, image, wait):
     what, left = f"{signal.Signals(number).name}, {1000 * wait:.1f} ms after the end", followed(image, WRITES)[1]
     trial.put("tag.img", image)
     before = snapshot(trial.folder)
-    with trial.start(["run", "tag.img"], bufsize=0, preexec_fn=leave_no_core) as program:
+    with trial.start(["run", "tag.img"], bufsize=0, preexec_fn=hear_signals) as program:
         talk(trial, what, program, WRITES, followed(image, WRITES)[0])
         program.stdin.close()
         program.stdin = None

@@ -7,7 +7,7 @@ from generator.dice import Dice
 from tagmodel.sizes import SIZES
 
 from .tool_interrupts import WRITES, talk
-from .tool_runs import DONE, KEPT, WRONG, no_image_there, not_read, said, snapshot
+from .tool_runs import DONE, KEPT, WRONG, failed, no_image_there, read_file, said, snapshot
 from .tool_tags import any_image, factory_image, followed
 
 CHANGED = "not written: it was changed during the session"
@@ -55,6 +55,8 @@ def another_image(trial):
             ("another image behind the link", "link", lambda: trial.put("tag.img", other))):
         start_again(trial)
         with_a_change(trial, what, ["run", name], change, said(f"{name}: {CHANGED}"))
+        start_again(trial)
+        with_a_change(trial, what, ["run", name, "--out", name], change, said(f"{name}: {CHANGED}"))
         if name == "tag.img":
             start_again(trial)
             left = {"new.img": followed(factory_image(SIZES[0]), WRITES)[1]}
@@ -69,12 +71,12 @@ def no_image_any_more(trial):
     image = factory_image(SIZES[0])
     start_again(trial)
     with_a_change(trial, "gone", ["run", "tag.img"], lambda: trial.drop("tag.img"),
-                  not_read("tag.img", errno.ENOENT))
+                  failed("tag.img", errno.ENOENT, ""))
     start_again(trial)
     with_a_change(trial, "the same again", ["run", "tag.img"], lambda: trial.put("tag.img", image), b"", DONE,
                   {"tag.img": followed(image, WRITES)[1]})
     start_again(trial)
-    with_a_change(trial, "a folder", ["run", "tag.img"], become_a_folder, not_read("tag.img", errno.EISDIR))
+    with_a_change(trial, "a folder", ["run", "tag.img"], become_a_folder, failed("tag.img", errno.EISDIR, ""))
     os.rmdir(trial.path("tag.img"))
 
 
@@ -85,7 +87,27 @@ def another_file_at_the_end(trial):
                   no_image_there("new.img"))
 
 
+def at_once(trial, times=10):
+    """Two sessions over one image that end at once: the later one sees what the earlier wrote, and does not write."""
+    image, streams = factory_image(SIZES[0]), (WRITES, b"ON\n02211022222222\n")
+    for _ in range(times):
+        start_again(trial)
+        programs = [trial.start(["run", "tag.img"], bufsize=0) for _ in streams]
+        for program, stream in zip(programs, streams):
+            talk(trial, "two at once", program, stream, followed(image, stream)[0])
+        for program in programs:
+            program.stdin.close()
+            program.stdin = None
+        ended = [trial.end(program) for program in programs]
+        trial.hold("two at once: status", sorted(found.status for found in ended), [DONE, WRONG])
+        for found, stream in zip(ended, streams):
+            errors = said(f"tag.img: {CHANGED}") if found.status else b""
+            trial.hold("two at once: standard error", found.errors, errors)
+            if found.status == DONE:
+                trial.hold("two at once: image", read_file(trial.path("tag.img")), followed(image, stream)[1])
+
+
 def meanwhile(trial):
     """All of them."""
-    for part in (another_image, no_image_any_more, another_file_at_the_end):
+    for part in (another_image, no_image_any_more, another_file_at_the_end, at_once):
         part(trial)

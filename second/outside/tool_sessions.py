@@ -15,8 +15,8 @@ from worked import SESSION_INPUT, SESSION_OUTPUT
 from .bad_input import BadInput
 from .inputs import write_inputs
 from .tool_runs import DONE, NO_IMAGE, WRONG, changes, failed, lines_said, read_file, said, snapshot
-from .tool_tags import (CARRIAGE_RETURN, REPLACED, STANDARD_INPUT, any_image, any_stream, factory_image, followed,
-                        no_form_line)
+from .tool_tags import (CARRIAGE_RETURN, FORMS, REPLACED, STANDARD_INPUT, any_image, any_stream, factory_image,
+                        followed, no_form_line, of_no_form)
 
 LINES_A_SESSION = 30
 SESSIONS_A_TAG = 3
@@ -108,7 +108,7 @@ def no_forms(trial, streams_and_texts=NO_FORMS):
             trial.drop("out.img")
             trial.put("tag.img", image)
             trial.expect(f"{words}, session {stream[:20]!r}", ["run", "tag.img", *words], output=output,
-                         errors=said(f"{name}: lines of no form: {text}") if text else b"",
+                         errors=of_no_form(name, text) if text else b"",
                          feed=OTHER_INPUT if name != STANDARD_INPUT else stream,
                          written={"out.img" if "--out" in words else "tag.img": left})
     from_a_terminal(trial, image)
@@ -122,8 +122,8 @@ def from_a_terminal(trial, image):
     keyboard, terminal = os.openpty()
     os.write(keyboard, stream + b"\x04")
     trial.expect("from a terminal", ["run", "tag.img"], output=output, written={"tag.img": left}, stdin=terminal,
-                 errors=lines_said(rb"[^\n]*Ctrl-D[^\n]*",
-                                   rb"standard input: lines of no form: 1 of 3, the first is line 2"))
+                 errors=lines_said(rb"[^\n]*Ctrl-D[^\n]*", b"standard input: lines of no form: 1 of 3, the first is line 2"
+                                   + FORMS.encode("ascii")))
     os.close(terminal)
     os.close(keyboard)
 

@@ -22,7 +22,8 @@ STANDARD_INPUT = "standard input"
 FORM = re.compile(rb"ON|OFF|EOF|([0-9A-F]{2}){1,64}")
 LONGEST_WITH_CR = 129  # the longest request, and a carriage return behind it
 PIECE = 65536
-CARRIAGE_RETURN = ", which ends in a carriage return; lines end in a newline alone"
+CARRIAGE_RETURN = ", which ends in a carriage return"
+FORMS = "; a line is ON, OFF, EOF or upper-case hex, and ends in a newline alone"
 
 
 def factory_image(size, uid=SESSION_UID):
@@ -88,6 +89,11 @@ def starts_of_lines(source):
         start = source.readline(cut)
 
 
+def of_no_form(name, text):
+    """The line on a session's lines of no form, with how many they are and which is the first."""
+    return said(f"{name}: lines of no form: {text}{FORMS}")
+
+
 def no_form_line(source, name=STANDARD_INPUT):
     """What is said of the lines of no form of a session, a file or bytes: how many, and which is the first; or b''."""
     wrong = number = 0
@@ -97,7 +103,7 @@ def no_form_line(source, name=STANDARD_INPUT):
             wrong += 1
             has_cr = len(line) <= LONGEST_WITH_CR and line.endswith(b"\r")
             first = first or f"line {number}" + (CARRIAGE_RETURN if has_cr else "")
-    return said(f"{name}: lines of no form: {wrong} of {number}, the first is {first}") if wrong else b""
+    return of_no_form(name, f"{wrong} of {number}, the first is {first}") if wrong else b""
 
 
 def any_stream(dice, image, count, newline=True):

@@ -1,6 +1,7 @@
 """The tool bin/uistermo as the second model would do its work, so that the trials of it can be tried themselves."""
 
 import contextlib
+import fcntl
 import io
 import os
 import re
@@ -226,8 +227,18 @@ def answered(line, *more):
 
 def hold_unchanged(path, loaded):
     """An image that others changed meanwhile is theirs."""
-    if read_image(path) != loaded:
+    try:
+        found = read_image(path)
+    except Stop as stop:
+        raise Stop(stop.status, *stop.lines, *NO_IMAGE) from stop
+    if found != loaded:
         raise refuse_to_write(path, "it was changed during the session")
+
+
+def lock_folder(path):
+    """Others that lock the folder of this file wait until the tool ends."""
+    folder = os.open(os.path.dirname(os.path.realpath(path)), os.O_RDONLY)
+    fcntl.flock(folder, fcntl.LOCK_EX)
 
 
 def no_form_text(name, wrong, count):
@@ -235,7 +246,8 @@ def no_form_text(name, wrong, count):
     number, line = wrong[0]
     has_cr = line.endswith(b"\r") and len(line) <= 129
     return (f"{name}: lines of no form: {len(wrong)} of {count}, the first is line {number}" +
-            (", which ends in a carriage return; lines end in a newline alone" if has_cr else ""))
+            (", which ends in a carriage return" if has_cr else "") +
+            "; a line is ON, OFF, EOF or upper-case hex, and ends in a newline alone")
 
 
 def run(*words):
@@ -267,7 +279,8 @@ def follow(path, source, out, is_back):
         wrong_lines += [(session.number, line)] if answer.endswith("?") else []
     for number in SIGNALS:
         signal.signal(number, signal.SIG_IGN)
-    if is_back:
+    if is_back or os.path.exists(out) and os.path.exists(path) and os.path.samefile(out, path):
+        lock_folder(path)
         hold_unchanged(path, loaded)
     save(out, session.record, session.memory)
     if wrong_lines:
