@@ -27,8 +27,8 @@ enum status load_image(const char *path, struct image *image, struct tag *tag);
 enum status can_save(const char *path);
 
 /*
- * Saves a tag's lasting parts to an image file, as write_file does. An image that is there is replaced, and so is an empty file, but any other is
- * not: it is a session, or a note, that a slip would lose.
+ * Saves a tag's lasting parts to an image file, as write_file does. A file that has an image's length is replaced, and so is an empty one, but any
+ * other is not: it is a session, or a note, that a slip would lose.
  */
 enum status save_image(const char *path, const struct tag *tag);
 

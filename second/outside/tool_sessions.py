@@ -116,14 +116,13 @@ def no_forms(trial, streams_and_texts=NO_FORMS):
 
 def from_a_terminal(trial, image):
     """From a terminal it is said first how a session ends."""
-    stream = b"ON\nno\n0221050A0B0C0D\n"
+    stream, no_form = b"ON\nno\n0221050A0B0C0D\n", b"1 of 3, the first is line 2" + FORMS.encode("ascii")
     output, left = followed(image, stream)
     trial.put("tag.img", image)
     keyboard, terminal = os.openpty()
     os.write(keyboard, stream + b"\x04")
     trial.expect("from a terminal", ["run", "tag.img"], output=output, written={"tag.img": left}, stdin=terminal,
-                 errors=lines_said(rb"[^\n]*Ctrl-D[^\n]*", b"standard input: lines of no form: 1 of 3, the first is line 2"
-                                   + FORMS.encode("ascii")))
+                 errors=lines_said(rb"[^\n]*Ctrl-D[^\n]*", rb"standard input: lines of no form: " + no_form))
     os.close(terminal)
     os.close(keyboard)
 
