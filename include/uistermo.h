@@ -10,9 +10,11 @@
  *            crates/packed/specs/Bytes.antt has their layout. They can be copied and kept, and hold the passwords in plain bytes.
  *   memory   the tag's user memory. Its length alone says which size of tag it is.
  *   room     where an answer is written, UISTERMO_ROOM bytes or more.
+ * For a search of many tags it keeps two lists of UIDs, which are no bytes but numbers of 64 bits: those of the tags, and those found.
  *
  * What the host owes:
- * - A pointer points to as many bytes as the length after it says, and record to UISTERMO_RECORD. With length 0 the pointer may be NULL.
+ * - A pointer points to as many bytes as the length after it says, and record to UISTERMO_RECORD; uids and list to as many entries of 8
+ *   bytes, aligned for uint64_t. With length 0 the pointer may be NULL.
  * - The buffers of one call do not overlap.
  * - No other thread touches them during the call.
  * That is all. Any bytes, lengths and numbers are taken: what does not fit is refused, and bytes that are no record are refusal 3.
@@ -44,6 +46,9 @@ extern "C" {
 /* The least room of an event, for both sizes: the longest answer, 2,048 blocks with status, is 1 + 2,048 * 5 + 2 bytes. */
 #define UISTERMO_ROOM 10243
 
+/* The most tags of a search. */
+#define UISTERMO_TAGS 256
+
 /* Kinds of events. */
 #define UISTERMO_ON 0           /* field on */
 #define UISTERMO_OFF 1          /* field off */
@@ -57,6 +62,9 @@ extern "C" {
 #define UISTERMO_REFUSED_RECORD 3 /* tag record breaks a record rule, or the bytes are no record of the memory's size */
 #define UISTERMO_REFUSED_IMAGE 4  /* image is not 2,112 or 8,256 bytes */
 #define UISTERMO_REFUSED_HEADER 5 /* image header breaks a rule, or byte 0 does not fit the image's length */
+#define UISTERMO_REFUSED_TAGS 6   /* more than 256 tags */
+#define UISTERMO_REFUSED_EQUAL 7  /* two UIDs are equal */
+#define UISTERMO_REFUSED_SMALL 18 /* the list's room is too small for all */
 
 /* A result is refusal number * 2^32 + length. A call that refuses has length 0 and leaves every byte of record and buffers as it was. */
 static inline uint32_t uistermo_refusal(uint64_t result) { return (uint32_t)(result >> 32); }
@@ -92,6 +100,16 @@ uint64_t uistermo_save(const uint8_t record[UISTERMO_RECORD], const uint8_t *mem
  * that is not refused and has no length.
  */
 uint64_t uistermo_factory(uint8_t record[UISTERMO_RECORD], uint64_t uid, uint8_t *memory, size_t memory_length);
+
+/*
+ * Finds every tag on a tray: up to UISTERMO_TAGS tags, all Ready, given by their UIDs. It asks with 16 slots; a slot with two or more answers
+ * is a collision, and the search goes again with the mask longer by that slot's four bits. The UIDs found fill the first entries of list, as
+ * many as there are tags, each once, in ascending order of the UID's four-bit groups taken from the lowest; the entries after them stay.
+ * The length is the number of Inventory requests sent: 1 where there are no tags, and for n tags at most 1 + 15 * (n / 2).
+ * Checks 6, 7, 18 in that order; refused, the list stays and the length is 0. A UID is any number, its lowest byte the one that travels
+ * first. The search keeps nothing and needs no memory beside the list; it goes at most 16 requests deep.
+ */
+uint64_t uistermo_search(const uint64_t *uids, size_t count, uint64_t *list, size_t list_room);
 
 #ifdef __cplusplus
 }

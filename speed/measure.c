@@ -3,14 +3,15 @@
  * counts its instructions. x86-64 only.
  *
  *   measure compiler            prints the version of the compiler
- *   measure MIX TAG name        prints how many calls the mix has, and its name; MIX is a to i, TAG is 16 or 64 (Kbit), 64 alone for c
+ *   measure MIX TAG name        prints how many calls the mix has, and its name; MIX is a to r, TAG is 16 or 64 (Kbit), 64 alone for c
+ *   measure MIX TAG search      prints how many tags a search has, and how many requests it sends; MIX is j to r
  *   measure MIX TAG SUBJECT N   makes the mix N times; SUBJECT is library, plain, floor or none
  *   measure MIX TAG time        prints the CPU time of an event in ns: floor, plain C, library
  *
- * Before anything is counted or timed, the library makes each call of the mix twice beside plain C, and results, record, memory, room and image
- * must be equal to the byte. The floor is the CRC of request and answer, by a table of 256 numbers, and one copy of the answer; for loading and
+ * Before anything is counted or timed, the library makes each call of the mix twice beside plain C, and results, record, memory, room, image and
+ * list must be equal to the byte. The floor is the CRC of request and answer, by a table of 256 numbers, and one copy of the answer; for loading and
  * saving one copy of the image; for a factory tag one filling of memory and of a header's bytes in the record. None is only `ret`: what it costs
- * is the loop's.
+ * is the loop's; so is the floor of a search, which has none.
  * Exit status: 0 all was done, 1 library and plain C differ or a mix does not do what it is for, 2 a wrong word.
  */
 #define _POSIX_C_SOURCE 200809L
@@ -44,12 +45,15 @@ struct lent {
     _Alignas(64) uint8_t memory[UISTERMO_MEMORY_64K];
     _Alignas(64) uint8_t room[UISTERMO_ROOM];
     _Alignas(64) uint8_t image[UISTERMO_IMAGE_64K];
+    _Alignas(64) uint64_t list[UISTERMO_TAGS + 1];
 };
 static struct lent measured, beside; /* beside: what plain C makes of the same calls */
 static _Alignas(64) uint8_t source[UISTERMO_IMAGE_64K]; /* the image that is loaded */
 static const uint64_t uid = 0xE002230401D6C8F7; /* of a factory tag; the image's too */
+enum { MOST_UIDS = 1000000 };
+static _Alignas(64) uint64_t uids[MOST_UIDS]; /* of the tags that are searched */
 
-enum { LOAD = UISTERMO_REQUEST + 1, SAVE, FACTORY }; /* beside the kinds of events */
+enum { LOAD = UISTERMO_REQUEST + 1, SAVE, FACTORY, SEARCH }; /* beside the kinds of events */
 
 struct call {
     uint32_t kind;
@@ -61,14 +65,19 @@ static struct call calls[17];
 static size_t count;
 static const struct call *now; /* the call that is being made */
 
-/* Mix (a) comes first. One without a request loads and saves an image, or makes a factory tag. */
+/* Mix (a) comes first. One without a request loads and saves an image, makes a factory tag, or searches tags. */
 static const struct mix {
     const char *name;
     const char *request; /* hex without CRC */
     bool damaged;        /* the CRC is wrong */
     bool factory;        /* a factory tag is made */
     int ends;            /* ends of frame after the request */
-    size_t answered;     /* the length of its answers */
+    size_t answered;     /* the length of its answers; of a search, its requests */
+    bool search;         /* tags are searched */
+    bool pairs;          /* their UIDs are alike in 60 bits, by twos; */
+    bool row;            /* or each is one more than the one before; else they are any */
+    size_t tags, room;   /* so many, and so many entries are lent as the list */
+    uint32_t refused;    /* with this number */
 } mixes[] = {
     {.name = "read one block", .request = "022005", .answered = 7},
     {.name = "read 32 blocks", .request = "0223001F", .answered = 131},
@@ -79,6 +88,15 @@ static const struct mix {
     {.name = "a damaged frame of 12 bytes", .request = "2220F7C8D601042302E0", .damaged = true},
     {.name = "load and save an image, mean of both"},
     {.name = "make a factory tag", .factory = true},
+    {.name = "search of 16 tags", .search = true, .tags = 16, .room = 16, .answered = 6},
+    {.name = "search of 64 tags", .search = true, .tags = 64, .room = 64, .answered = 25},
+    {.name = "search of 256 tags", .search = true, .tags = 256, .room = 256, .answered = 88},
+    {.name = "search of 256 tags, pairs alike in 60 bits", .search = true, .pairs = true, .tags = 256, .room = 256, .answered = 1809},
+    {.name = "search of 256 tags, UIDs in a row", .search = true, .row = true, .tags = 256, .room = 256, .answered = 17},
+    {.name = "16 tags, no room for the list", .search = true, .tags = 16, .refused = UISTERMO_REFUSED_SMALL},
+    {.name = "64 tags, no room for the list", .search = true, .tags = 64, .refused = UISTERMO_REFUSED_SMALL},
+    {.name = "256 tags, no room for the list", .search = true, .tags = 256, .refused = UISTERMO_REFUSED_SMALL},
+    {.name = "1,000,000 tags, refused", .search = true, .tags = MOST_UIDS, .room = UISTERMO_TAGS, .refused = UISTERMO_REFUSED_TAGS},
 };
 enum { MIXES = sizeof mixes / sizeof *mixes };
 static const struct mix *mix;
@@ -95,6 +113,7 @@ typedef __typeof__(uistermo_event) event_call;
 typedef __typeof__(uistermo_load) load_call;
 typedef __typeof__(uistermo_save) save_call;
 typedef __typeof__(uistermo_factory) factory_call;
+typedef __typeof__(uistermo_search) search_call;
 
 static uint64_t floor_event(uint8_t *record, uint8_t *memory, size_t memory_length, uint8_t *room, size_t room_length, uint32_t kind,
                             const uint8_t *frame, size_t frame_length)
@@ -138,7 +157,8 @@ event_call none_event;
 load_call none_load;
 save_call none_save;
 factory_call none_factory;
-__asm__(".text\nnone_event:\nnone_load:\nnone_save:\nnone_factory:\n\tret\n");
+search_call none_search;
+__asm__(".text\nnone_event:\nnone_load:\nnone_save:\nnone_factory:\nnone_search:\n\tret\n");
 
 enum { FLOOR, PLAIN, LIBRARY, NONE, SUBJECTS };
 static const struct subject {
@@ -147,11 +167,12 @@ static const struct subject {
     load_call *load;
     save_call *save;
     factory_call *factory;
+    search_call *search;
 } subjects[SUBJECTS] = {
-    [FLOOR] = {"floor", floor_event, floor_load, floor_save, floor_factory},
-    [PLAIN] = {"plain", plain_event, plain_load, plain_save, plain_factory},
-    [LIBRARY] = {"library", uistermo_event, uistermo_load, uistermo_save, uistermo_factory},
-    [NONE] = {"none", none_event, none_load, none_save, none_factory},
+    [FLOOR] = {"floor", floor_event, floor_load, floor_save, floor_factory, none_search},
+    [PLAIN] = {"plain", plain_event, plain_load, plain_save, plain_factory, plain_search},
+    [LIBRARY] = {"library", uistermo_event, uistermo_load, uistermo_save, uistermo_factory, uistermo_search},
+    [NONE] = {"none", none_event, none_load, none_save, none_factory, none_search},
 };
 
 static uint64_t make(const struct subject *s, struct lent *l, const struct call *c)
@@ -163,6 +184,8 @@ static uint64_t make(const struct subject *s, struct lent *l, const struct call 
         return s->save(l->record, l->memory, size->memory, l->image, size->image);
     if (c->kind == FACTORY)
         return s->factory(l->record, uid, l->memory, size->memory);
+    if (c->kind == SEARCH)
+        return s->search(uids, mix->tags, l->list, mix->room);
     return s->event(l->record, l->memory, size->memory, l->room, sizeof l->room, c->kind, c->frame, c->length);
 }
 
@@ -187,6 +210,29 @@ static void make_source(void)
         source[PLAIN_HEADER + i] = (uint8_t)(i * 7 + i / 256);
 }
 
+/* A number as good as any (splitmix64); the same ones each time. */
+static uint64_t any(void)
+{
+    static uint64_t state = 0;
+    uint64_t n = state += 0x9E3779B97F4A7C15;
+    n = (n ^ n >> 30) * 0xBF58476D1CE4E5B9;
+    n = (n ^ n >> 27) * 0x94D049BB133111EB;
+    return n ^ n >> 31;
+}
+
+/* Of pairs the lowest byte is the pair's own, so that each is alone with a mask of 8 bits or more: no 256 tags take more requests. */
+static void make_uids(void)
+{
+    for (size_t i = 0; i < mix->tags; i++)
+        uids[i] = any();
+    for (size_t i = 0; mix->pairs && i < mix->tags; i += 2) {
+        uids[i] = uids[i] << 8 | i / 2;
+        uids[i + 1] = uids[i] ^ (uint64_t)1 << 63;
+    }
+    for (size_t i = 1; mix->row && i < mix->tags; i++)
+        uids[i] = uids[i - 1] + 1;
+}
+
 static struct call *add(uint32_t kind)
 {
     calls[count].kind = kind;
@@ -197,6 +243,11 @@ static void make_calls(void)
 {
     if (mix->factory) {
         add(FACTORY);
+        return;
+    }
+    if (mix->search) {
+        make_uids();
+        add(SEARCH);
         return;
     }
     if (!mix->request) {
@@ -231,25 +282,29 @@ static void check_call(struct call *c)
     uint64_t plain = make(&subjects[PLAIN], &beside, c), library = make(&subjects[LIBRARY], &measured, c);
     if (plain != library || memcmp(&beside, &measured, sizeof beside) != 0)
         die("library and plain C differ");
-    if (uistermo_refusal(plain))
-        die("a call is refused");
+    if (uistermo_refusal(plain) != mix->refused)
+        die("a call is refused, or is not");
     if (c->kind < LOAD)
-        memcpy(c->answer, beside.room, c->answered = uistermo_length(plain));
+        memcpy(c->answer, beside.room, uistermo_length(plain));
+    if (c->kind < LOAD || c->kind == SEARCH)
+        c->answered = uistermo_length(plain);
 }
 
-/* Both load the tag and bring it into the field, and then make the mix twice. */
+/* Both load the tag and bring it into the field, but for a search, and then make the mix twice. */
 static void check(void)
 {
     static struct call load = {.kind = LOAD}, on = {.kind = UISTERMO_ON};
     size_t answered = 0;
-    check_call(&load);
-    check_call(&on);
+    if (!mix->search) {
+        check_call(&load);
+        check_call(&on);
+    }
     for (size_t i = 0; i < 2 * count; i++)
         check_call(&calls[i % count]);
     for (size_t i = 0; i < count; i++)
         answered += calls[i].answered;
     if (answered != mix->answered)
-        die("the answers have another length");
+        die(mix->search ? "other requests are sent than the table says" : "the answers have another length");
 }
 
 /* ---- times */
@@ -318,6 +373,10 @@ int main(int words, char **word)
     make_calls();
     if (strcmp(word[3], "name") == 0)
         return printf("%zu %s\n", count, mix->name) < 0;
+    if (mix->search && strcmp(word[3], "search") == 0) {
+        check();
+        return printf("%zu %zu\n", mix->tags, mix->answered) < 0;
+    }
     const struct subject *s = find_subject(word[3]);
     bool timed = strcmp(word[3], "time") == 0;
     char *rest = "";

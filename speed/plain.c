@@ -700,3 +700,56 @@ uint64_t plain_factory(uint8_t record[UISTERMO_RECORD], uint64_t uid, uint8_t *m
     memset(memory, 0, memory_length);
     return 0;
 }
+
+/* ---- the search of a tray */
+
+enum { SLOTS = 16, SLOT_BITS = 4 };
+
+static bool any_equal(const uint64_t *uids, size_t count)
+{
+    for (size_t i = 0; i < count; i++)
+        for (size_t j = i + 1; j < count; j++)
+            if (uids[i] == uids[j])
+                return true;
+    return false;
+}
+
+struct search {
+    const uint64_t *uids;
+    size_t count;
+    uint64_t *next; /* where the next UID found goes */
+    uint32_t requests;
+};
+
+/* One request, which every tag hears: each whose UID ends in the mask answers in its slot. A slot with two answers or more is asked again. */
+static void ask(struct search *s, uint64_t mask, unsigned mask_len)
+{
+    uint64_t compared = ((uint64_t)1 << mask_len) - 1, heard[SLOTS];
+    uint32_t answers[SLOTS] = {0};
+    s->requests++;
+    for (size_t i = 0; i < s->count; i++)
+        if ((s->uids[i] & compared) == mask) {
+            unsigned slot = s->uids[i] >> mask_len & (SLOTS - 1);
+            answers[slot]++;
+            heard[slot] = s->uids[i];
+        }
+    for (unsigned slot = 0; slot < SLOTS; slot++)
+        if (answers[slot] == 1)
+            *s->next++ = heard[slot];
+        else if (answers[slot] > 1)
+            ask(s, mask | (uint64_t)slot << mask_len, mask_len + SLOT_BITS);
+}
+
+uint64_t plain_search(const uint64_t *uids, size_t count, uint64_t *list, size_t list_room)
+{
+    if (count > UISTERMO_TAGS)
+        return refuse(UISTERMO_REFUSED_TAGS);
+    if (any_equal(uids, count))
+        return refuse(UISTERMO_REFUSED_EQUAL);
+    if (list_room < count)
+        return refuse(UISTERMO_REFUSED_SMALL);
+
+    struct search s = {.uids = uids, .count = count, .next = list};
+    ask(&s, 0, 0);
+    return s.requests;
+}

@@ -22,6 +22,8 @@ uint64_t plain_save(const uint8_t record[UISTERMO_RECORD], const uint8_t *memory
 
 uint64_t plain_factory(uint8_t record[UISTERMO_RECORD], uint64_t uid, uint8_t *memory, size_t memory_length);
 
+uint64_t plain_search(const uint64_t *uids, size_t count, uint64_t *list, size_t list_room);
+
 /* The CRC of ISO/IEC 15693; it travels low byte first. */
 uint16_t plain_crc(const uint8_t *bytes, size_t n);
 

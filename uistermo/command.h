@@ -10,7 +10,7 @@
 enum status {
     DONE = 0,
     REFUSED = 1, /* by the library */
-    WRONG = 2,   /* a wrong word, or a file that cannot be read or written */
+    WRONG = 2,   /* a wrong word, a line that is no UID, or a file that cannot be read or written */
 };
 
 /* A command. main.c has the table of them. */
@@ -22,7 +22,7 @@ struct command {
     enum status (*run)(const struct command *self, char **words, int count); /* words: those after the name */
 };
 
-extern const struct command factory_command, show_command, run_command;
+extern const struct command factory_command, show_command, run_command, tray_command;
 
 /* ---- on standard error; each gives the status that goes with it */
 
@@ -34,7 +34,7 @@ enum status wrong_words(const struct command *c, const char *why);
 enum status unread(const char *path, const char *why);
 enum status unwritten(const char *path, const char *why);
 
-/* A call that the library refused, with document 01's number and its words, and what more there is to say. */
+/* A call that the library refused, with the documents' number and its words, and what more there is to say. */
 enum status refused(const char *path, uint64_t result, const char *more);
 
 /* ---- words */
@@ -48,6 +48,19 @@ int hex_digit(char c);
 /* A UID as on a label: 16 hex digits, highest byte first, with any spaces and colons between bytes. Gives 0 where the text is none. */
 int read_uid(const char *text, uint64_t *uid);
 
+/* What is said where a text is none. */
+#define UID_FORM "a UID is 16 hex digits, as E002230401D6C8F0 or E0:02:23:04:01:D6:C8:F0"
+
+/* A UID as far as its text has come. Begins with zeros; with UID_DIGITS digits it is whole. */
+enum { UID_DIGITS = 16 };
+struct uid {
+    uint64_t number;
+    int digits;
+};
+
+/* Takes the next character. Gives 0 where no UID goes on so. */
+int take_uid(struct uid *uid, char c);
+
 /* ---- standard output */
 
 /* Writes out what was printed; says so where that cannot be. */
@@ -58,5 +71,8 @@ struct figure {
     char text[24];
 };
 struct figure figure(unsigned n);
+
+/* A UID in hex digits, highest byte first. */
+struct figure uid_digits(uint64_t uid);
 
 #endif

@@ -59,7 +59,7 @@ static enum status run(const struct command *self, char **words, int count)
     if (read_uid(text, &uid))
         status = make(words[0][0] == '1' ? UISTERMO_MEMORY_16K : UISTERMO_MEMORY_64K, uid, words[count - 1]);
     else
-        status = wrong_word(self, text, "a UID is 16 hex digits, as E002230401D6C8F0 or E0:02:23:04:01:D6:C8:F0; the image file follows it");
+        status = wrong_word(self, text, UID_FORM "; the image file follows it");
     free(text);
     return status;
 }

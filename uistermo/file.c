@@ -12,18 +12,23 @@
 
 #include "file.h"
 
+int read_most(int file, uint8_t *bytes, size_t most, size_t *length)
+{
+    ssize_t n = 1;
+    *length = 0;
+    while (*length < most && (n = read(file, bytes + *length, most - *length)) > 0)
+        *length += (size_t)n;
+    return n < 0 ? errno : 0;
+}
+
 enum status read_file(const char *path, uint8_t *bytes, size_t most, size_t *length)
 {
     int file = open(path, O_RDONLY);
     if (file < 0)
         return unread(path, strerror(errno));
-    ssize_t n = 1;
-    *length = 0;
-    while (*length < most && (n = read(file, bytes + *length, most - *length)) > 0)
-        *length += (size_t)n;
-    int error = errno;
+    int error = read_most(file, bytes, most, length);
     close(file);
-    return n < 0 ? unread(path, strerror(error)) : DONE;
+    return error ? unread(path, strerror(error)) : DONE;
 }
 
 int is_plain_file(const char *path, size_t *length)

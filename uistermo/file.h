@@ -9,8 +9,9 @@
 
 #include "command.h"
 
-/* Reads a file's bytes, so many at most. */
+/* Reads a file's bytes, so many at most. read_most is for a file that is open: it says nothing, and gives 0 or the error number of the system. */
 enum status read_file(const char *path, uint8_t *bytes, size_t most, size_t *length);
+int read_most(int file, uint8_t *bytes, size_t most, size_t *length);
 
 /* Whether a path leads to a plain file, no folder, device or pipe; and how long that is. */
 int is_plain_file(const char *path, size_t *length);

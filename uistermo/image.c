@@ -1,9 +1,12 @@
-/* Image files, by the library. */
+/* Image files, by the library. Quoted words are document 01's. */
 #include "image.h"
 
 #include <stdio.h>
 
 #include "file.h"
+#include "frame.h"
+
+enum { UID = 1 }; /* "Byte 0 .. 1 to 8 UID" */
 
 static enum status refused_load(const char *path, uint64_t result, size_t length)
 {
@@ -18,12 +21,17 @@ static enum status refused_load(const char *path, uint64_t result, size_t length
 enum status load_image(const char *path, struct image *image, struct tag *tag)
 {
     enum status status = read_file(path, image->bytes, sizeof image->bytes, &image->length);
-    if (status != DONE)
-        return status;
+    return status == DONE ? load_read(path, image, tag) : status;
+}
+
+enum status load_read(const char *path, const struct image *image, struct tag *tag)
+{
     tag->size = image->length == UISTERMO_IMAGE_16K ? UISTERMO_MEMORY_16K : UISTERMO_MEMORY_64K;
     uint64_t result = uistermo_load(tag->record, image->bytes, image->length, tag->memory, tag->size);
     return uistermo_refusal(result) ? refused_load(path, result, image->length) : DONE;
 }
+
+uint64_t image_uid(const struct image *image) { return uid_at(image->bytes + UID); }
 
 enum status can_save(const char *path)
 {

@@ -20,8 +20,12 @@ struct image {
     size_t length;
 };
 
-/* The tag of an image file; the field is off. image keeps the file's bytes. */
+/* The tag of an image file; the field is off. image keeps the file's bytes. load_read is for a file that has been read. */
 enum status load_image(const char *path, struct image *image, struct tag *tag);
+enum status load_read(const char *path, const struct image *image, struct tag *tag);
+
+/* The UID of an image that was loaded. */
+uint64_t image_uid(const struct image *image);
 
 /* Whether save_image may succeed, as far as can be told without writing. */
 enum status can_save(const char *path);

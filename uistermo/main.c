@@ -1,27 +1,28 @@
 /*
  * bin/uistermo: the tool for the people at the bench, over the proved tag. This file has the table of commands; each has a file of its own.
- * session.c runs a session's lines, image.c loads and saves image files by the library, file.c reads and replaces files, words.c and say.c read
- * words and say what is wrong.
+ * session.c runs a session's lines, trace.c prints the search of a tray, image.c loads and saves image files by the library, frame.c has bytes as
+ * they travel, file.c reads and replaces files, words.c and say.c read words and say what is wrong.
  */
+#include <signal.h>
 #include <stdio.h>
 #include <string.h>
 
 #include "command.h"
 
-static const struct command *const commands[] = {&factory_command, &show_command, &run_command};
+static const struct command *const commands[] = {&factory_command, &show_command, &run_command, &tray_command};
 
 enum { COMMANDS = sizeof commands / sizeof *commands };
 
 static void list(FILE *to)
 {
-    fputs("A proved ST25TV16KC or ST25TV64KC tag, kept in an image file.\n\nusage: bin/uistermo COMMAND WORDS..\n\n", to);
+    fputs("Proved ST25TV16KC and ST25TV64KC tags: one kept in an image file, or many on a tray.\n\nusage: bin/uistermo COMMAND WORDS..\n\n", to);
     for (int i = 0; i < COMMANDS; i++) {
         fprintf(to, "  %s %s\n", commands[i]->name, commands[i]->words);
         fprintf(to, "      %s\n", commands[i]->about);
     }
     fputs("\nbin/uistermo COMMAND --help says more of one, with an example.\n"
-          "Exit status: 0 done; 1 refused by the library, with document 01's number and its words; 2 a wrong word, or a file that cannot be read\n"
-          "or written.\n",
+          "Exit status: 0 done; 1 refused by the library, with the documents' number and its words; 2 a wrong word, a line that is no UID, or a\n"
+          "file that cannot be read or written.\n",
           to);
 }
 
@@ -65,6 +66,7 @@ static enum status start(char **words, int count)
 
 int main(int count, char **words)
 {
+    signal(SIGPIPE, SIG_IGN); /* a reader that goes away is no interrupt: writing then fails, and that is said */
     enum status status = start(words + 1, count - 1);
     return (int)(status == DONE ? flush_output() : status);
 }

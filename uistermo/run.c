@@ -42,16 +42,14 @@ static void interrupted(int number)
     raise(number);
 }
 
-/* An interrupt ends the program as it would anyway, with a word about the image; one that was ignored before, as by nohup, still is. A reader of the
-   answers that goes away is no interrupt: writing then fails. */
+/* An interrupt ends the program as it would anyway, with a word about the image; one that was ignored before, as by nohup, still is. */
 static void catch_interrupts(void)
 {
     static const int numbers[] = {SIGINT, SIGTERM, SIGHUP, SIGQUIT};
-    struct sigaction caught = {.sa_handler = interrupted}, ignored = {.sa_handler = SIG_IGN}, before;
+    struct sigaction caught = {.sa_handler = interrupted}, before;
     for (size_t i = 0; i < sizeof numbers / sizeof *numbers; i++)
         if (sigaction(numbers[i], NULL, &before) == 0 && before.sa_handler != SIG_IGN)
             sigaction(numbers[i], &caught, NULL);
-    sigaction(SIGPIPE, &ignored, NULL);
 }
 
 /* ---- the command */

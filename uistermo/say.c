@@ -1,5 +1,6 @@
 /* What is said on standard error, and standard output. */
 #include <errno.h>
+#include <inttypes.h>
 #include <stdio.h>
 #include <string.h>
 
@@ -42,7 +43,7 @@ enum status flush_output(void)
     return fflush(stdout) == 0 && !ferror(stdout) ? DONE : unwritten("standard output", strerror(errno));
 }
 
-/* The words are those of document 01's table, "Host calls and their numbers". */
+/* The words are those of document 01's table, "Host calls and their numbers", and of document 02's requests. */
 enum status refused(const char *path, uint64_t result, const char *more)
 {
     static const char *const words[] = {
@@ -51,6 +52,9 @@ enum status refused(const char *path, uint64_t result, const char *more)
         [UISTERMO_REFUSED_RECORD] = "tag record breaks a record rule below",
         [UISTERMO_REFUSED_IMAGE] = "image is not 2,112 or 8,256 bytes",
         [UISTERMO_REFUSED_HEADER] = "image header breaks a rule, or byte 0 does not fit the image's length",
+        [UISTERMO_REFUSED_TAGS] = "more than 256 tags",
+        [UISTERMO_REFUSED_EQUAL] = "two UIDs are equal",
+        [UISTERMO_REFUSED_SMALL] = "the list's room is too small for all",
     };
     uint32_t number = uistermo_refusal(result);
     int known = number < sizeof words / sizeof *words && words[number];
@@ -66,5 +70,12 @@ struct figure figure(unsigned n)
         snprintf(f.text, sizeof f.text, "%u", n);
     else
         snprintf(f.text, sizeof f.text, "%u,%03u", n / 1000, n % 1000);
+    return f;
+}
+
+struct figure uid_digits(uint64_t uid)
+{
+    struct figure f;
+    snprintf(f.text, sizeof f.text, "%016" PRIX64, uid);
     return f;
 }

@@ -7,7 +7,7 @@
 #include <string.h>
 #include <unistd.h>
 
-enum { CRC_BYTES = 2 };
+#include "frame.h"
 
 struct event {
     uint32_t kind;
@@ -17,19 +17,7 @@ struct event {
 
 /* ---- from a line to an event */
 
-/* "reflected polynomial 8408h, start FFFFh, complemented" */
-static uint16_t crc(const uint8_t *bytes, size_t length)
-{
-    uint16_t sum = 0xFFFF;
-    for (size_t i = 0; i < length; i++) {
-        sum ^= bytes[i];
-        for (int bit = 0; bit < 8; bit++)
-            sum = (uint16_t)(sum & 1 ? sum >> 1 ^ 0x8408 : sum >> 1);
-    }
-    return (uint16_t)~sum;
-}
-
-/* "the program adds the CRC", "low byte first" */
+/* "the program adds the CRC" */
 static int read_request(const struct line *l, struct event *e)
 {
     if (l->length < FEWEST_DIGITS || l->length > MOST_DIGITS || l->length % 2 != 0)
@@ -41,10 +29,7 @@ static int read_request(const struct line *l, struct event *e)
             return 0;
         e->frame[i] = (uint8_t)(16 * high + low);
     }
-    uint16_t sum = crc(e->frame, n);
-    e->frame[n] = (uint8_t)sum;
-    e->frame[n + 1] = (uint8_t)(sum >> 8);
-    e->length = n + CRC_BYTES;
+    e->length = add_crc(e->frame, n);
     return 1;
 }
 
@@ -65,13 +50,9 @@ static int read_event(const struct line *l, struct event *e)
 
 static void print_answer(const uint8_t *answer, size_t length)
 {
-    static const char digits[] = "0123456789ABCDEF";
     if (length == 0)
         putchar('-');
-    for (size_t i = 0; i < length; i++) {
-        putchar(digits[answer[i] >> 4]);
-        putchar(digits[answer[i] & 15]);
-    }
+    print_hex(answer, length);
     putchar('\n');
 }
 

@@ -13,9 +13,9 @@ static const char help[] =
     "  bin/uistermo factory 16 E002230401D6C8F0 tag.img\n"
     "  bin/uistermo show tag.img\n";
 
-/* Places in an image: "Byte 0 .. 1 to 8 UID; 9 AFI; 10 DSFID; 11 locks .. 12 to 18 RFA1SS, ENDA1, RFA2SS, ENDA2, RFA3SS, ENDA3, RFA4SS" */
-enum { UID = 1, AFI = 9, DSFID = 10, LOCKS = 11, PROTECTION = 12, END = 13, NEXT_AREA = 2, MEMORY = 64 };
-enum { AREAS = 4, UID_BYTES = 8, BLOCK = 4, END_UNIT = 8 };
+/* Places in an image: "9 AFI; 10 DSFID; 11 locks .. 12 to 18 RFA1SS, ENDA1, RFA2SS, ENDA2, RFA3SS, ENDA3, RFA4SS" */
+enum { AFI = 9, DSFID = 10, LOCKS = 11, PROTECTION = 12, END = 13, NEXT_AREA = 2, MEMORY = 64 };
+enum { AREAS = 4, BLOCK = 4, END_UNIT = 8 };
 
 enum right { ALWAYS, IN_SESSION, NEVER };
 
@@ -110,10 +110,8 @@ static enum status run(const struct command *self, char **words, int count)
         return status;
     unsigned blocks = (unsigned)(tag.size / BLOCK);
     printf("size      %d Kbit, %s blocks of 4 bytes\n", tag.size == UISTERMO_MEMORY_16K ? 16 : 64, figure(blocks).text);
-    printf("UID       ");
-    for (int i = UID_BYTES; i-- > 0;)
-        printf("%02X", image.bytes[UID + i]);
-    printf("\nAFI       %02Xh\nDSFID     %02Xh\n", image.bytes[AFI], image.bytes[DSFID]);
+    printf("UID       %s\n", uid_digits(image_uid(&image)).text);
+    printf("AFI       %02Xh\nDSFID     %02Xh\n", image.bytes[AFI], image.bytes[DSFID]);
     show_locks(image.bytes[LOCKS]);
     show_areas(image.bytes, blocks);
     show_memory(image.bytes + MEMORY, blocks);

@@ -21,17 +21,23 @@ int hex_digit(char c)
 
 static int any_digit(char c) { return hex_digit((char)toupper((unsigned char)c)); }
 
+int take_uid(struct uid *uid, char c)
+{
+    int digit = any_digit(c), between_bytes = uid->digits % 2 == 0 && uid->digits > 0 && uid->digits < UID_DIGITS;
+    if (digit < 0)
+        return between_bytes && (c == ' ' || c == ':');
+    if (uid->digits == UID_DIGITS)
+        return 0;
+    uid->number = uid->number << 4 | (uint64_t)digit;
+    uid->digits++;
+    return 1;
+}
+
 int read_uid(const char *text, uint64_t *uid)
 {
-    *uid = 0;
-    for (int i = 0; i < 8; i++) {
-        if (i > 0)
-            text += strspn(text, " :");
-        int high = any_digit(text[0]), low = high < 0 ? -1 : any_digit(text[1]);
-        if (low < 0)
-            return 0;
-        *uid = *uid << 8 | (uint64_t)(16 * high + low);
-        text += 2;
-    }
-    return *text == '\0';
+    struct uid read = {0, 0};
+    while (*text != '\0' && take_uid(&read, *text))
+        text++;
+    *uid = read.number;
+    return *text == '\0' && read.digits == UID_DIGITS;
 }

@@ -51,6 +51,19 @@ def factory_no_form_lines(dice):
     return [lines.pop(dice.below(len(lines))) for _ in range(len(lines))]
 
 
+def search_no_form_lines(dice):
+    """SEARCH with every wrong kind of number and UIDs, in an order that the dice choose."""
+    uid = b"0102030405060708"
+    lines = [b"SEARCH", b"SEARCH ", b"SEARCH  ", b"SEARCH 1", b"SEARCH " + uid, b"SEARCH  " + uid, b"search 1 " + uid,
+             b"SEARCH1 " + uid, b" SEARCH 1 " + uid, b"SEARCHES 1 " + uid, b"SEARCH 01 " + uid, b"SEARCH 00 ",
+             b"SEARCH -1 " + uid, b"SEARCH +1 " + uid, b"SEARCH 1.0 " + uid, b"SEARCH A " + uid, b"SEARCH 301 " + uid,
+             b"SEARCH 1000 ", b"SEARCH " + b"9" * 30 + b" " + uid, b"SEARCH 1  " + uid, b"SEARCH 1 " + uid + b" ",
+             b"SEARCH 2 " + uid + b" " + uid, b"SEARCH 1 " + uid + b"\r", b"SEARCH 1 " + uid[:14] + b"0g",
+             b"SEARCH 1 " + b"ab" * 8, b"SEARCH 1 " + uid[:15], b"SEARCH 1 " + uid + b"0", b"SEARCH 1 " + uid[:14],
+             b"SEARCH 2 " + uid + b"01", b"SEARCH 1 -", b"SEARCH 300 " + b"00" * 8 * 301, b"SEARCH 300 " + b"00" * 2401]
+    return [lines.pop(dice.below(len(lines))) for _ in range(len(lines))]
+
+
 def tagrun_no_form_lines(dice):
     """Lines that tagrun answers with `?`, and the longest request beside them."""
     return [b"", b"0", b"on", b"ON ", b" ON", b"ON\r", b"OFF\x00", b"0g", b"0a", b"02200", b"000", b"ABCDE", b"0220000", b"0220 00", b"\xFF" * 4,

@@ -71,7 +71,8 @@ def expected_text(step):
     """What the answer to a step must say."""
     if step.answer is None:
         return "ok"
-    parts = [f"number {step.number}", f"length {len(step.answer) // 2}", f"answer {shortened(step.answer or '-')}"]
+    count = f"length {len(step.answer) // 2}" if step.requests is None else f"requests {step.requests}"
+    parts = [f"number {step.number}", count, f"answer {shortened(step.answer or '-')}"]
     parts += [f"record {span}" for span in spans(step.record)]
     parts += [f"{name} {crc}" for name, crc in (("memory", step.memory), ("room", step.room)) if crc]
     return ", ".join(parts)

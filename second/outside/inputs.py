@@ -8,8 +8,8 @@ from generator.streams import casebook_pieces, tagrun_pieces
 CHUNK = 1000000
 WORDS = {
     "tagrun": (b"0", b"ON", b"EOF", b"02"),
-    "casebook": (b"MEM 1", b"ROOM 9", b"SAVE 1", b"PUT 0 00", b"PUT 1", b"FACTORY 00", b"REC 00", b"REQ 00", b"LOAD 00",
-                 b"ON"),
+    "casebook": (b"MEM 1", b"ROOM 9", b"SAVE 1", b"PUT 0 00", b"PUT 1", b"FACTORY 00", b"SEARCH 1", b"SEARCH 1 00",
+                 b"REC 00", b"REQ 00", b"LOAD 00", b"ON"),
 }
 EVENTS = {"tagrun": b"022000\n", "casebook": b"EOF\n"}
 

@@ -16,12 +16,14 @@ from .tool_pages import pages
 from .tool_runs import Trial
 from .tool_sessions import bad_sessions, no_forms, printed_session, sessions, streams
 from .tool_show import shows
+from .tool_tray import trays
+from .tool_tray_files import tray_files
 from .tool_words import refused_images, wrong_word_lists
 
 
 class Amounts(NamedTuple):
     """How much is tried: images shown of each size, one broken header in so many, tags of three sessions, streams and
-    their lines, bad input.
+    their lines, drawn trays, bad input.
     """
 
     shown: int
@@ -29,14 +31,15 @@ class Amounts(NamedTuple):
     tags: int
     seeds: int
     lines: int
+    trays: int
     bad: Settings
 
 
-FULL = Amounts(40, 1, 100, 5, 4000, Settings())
-QUICK = Amounts(4, 5, 10, 1, 1000, Settings(long_line=10 * MEGABYTE))
+FULL = Amounts(40, 1, 100, 5, 4000, 120, Settings())
+QUICK = Amounts(4, 5, 10, 1, 1000, 20, Settings(long_line=10 * MEGABYTE))
 # A sanitizer takes memory of its own.
-SANITIZED = Amounts(20, 1, 50, 2, 2000, Settings(long_line=10 * MEGABYTE, most_memory=256 * MEGABYTE))
-SANITIZED_QUICK = Amounts(4, 5, 10, 1, 1000, Settings(long_line=MEGABYTE, most_memory=256 * MEGABYTE))
+SANITIZED = Amounts(20, 1, 50, 2, 2000, 60, Settings(long_line=10 * MEGABYTE, most_memory=256 * MEGABYTE))
+SANITIZED_QUICK = Amounts(4, 5, 10, 1, 1000, 20, Settings(long_line=MEGABYTE, most_memory=256 * MEGABYTE))
 
 
 def parts(root, amounts):
@@ -55,6 +58,8 @@ def parts(root, amounts):
         "files": files,
         "limits": limits,
         "interrupts": interrupts,
+        "tray": lambda trial: trays(trial, amounts.trays),
+        "tray, files and lines": tray_files,
         "meanwhile": meanwhile,
         "pages": lambda trial: pages(trial, root),
     }

@@ -35,11 +35,11 @@ def hear_signals():
     resource.setrlimit(resource.RLIMIT_CORE, (0, 0))
 
 
-def answer_of(program, limit):
-    """One line of output, or less where no more comes within the limit; read without a buffer."""
+def line_from(pipe, limit):
+    """One line, or less where no more comes within the limit; read without a buffer."""
     line = b""
-    while not line.endswith(b"\n") and select.select([program.stdout], [], [], limit)[0]:
-        piece = program.stdout.read(1)
+    while not line.endswith(b"\n") and select.select([pipe], [], [], limit)[0]:
+        piece = pipe.read(1)
         if not piece:
             break
         line += piece
@@ -54,7 +54,7 @@ def talk(trial, what, program, stream, output):
         except BrokenPipeError:
             trial.fault(f"{what}: it reads no more")
             return
-        answer = answer_of(program, trial.limit)
+        answer = line_from(program.stdout, trial.limit)
         trial.hold(f"{what}: answer to {line!r}", answer, expected + b"\n")
         if not answer:
             return
@@ -78,7 +78,7 @@ def interrupted_while_it_writes(trial, number, image):
     trial.put("session.txt", WRITES + b"022000\n" * MANY_LINES)
     before = snapshot(trial.folder)
     with trial.start(["run", "tag.img", "session.txt"], bufsize=0, preexec_fn=hear_signals) as program:
-        trial.hold(f"{what}: first answer", answer_of(program, trial.limit), followed(image, b"ON\n")[0])
+        trial.hold(f"{what}: first answer", line_from(program.stdout, trial.limit), followed(image, b"ON\n")[0])
         time.sleep(TO_FILL_A_PIPE)
         program.send_signal(number)
         trial.hold_end(what, trial.end(program), -number, None, INTERRUPTED)

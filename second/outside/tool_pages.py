@@ -19,6 +19,7 @@ HELP_WORDS = {  # with the help asked for among other words, sound and wrong one
     "factory": (["-h"], ["16", "-h"], ["--help", "17", "no UID"], ["16", "E002230401D6C8F0", "new.img", "--help"]),
     "show": (["-h"], ["none.img", "--help"], ["-h", "a", "b", "c"]),
     "run": (["-h"], ["tag.img", "-h"], ["--help", "--wrong"], ["none.img", "-", "--out", "new.img", "--help"]),
+    "tray": (["-h"], ["none.txt", "-h"], ["--help", "--wrong"], ["--trace", "-", "-", "--help"]),
 }
 
 

@@ -16,8 +16,8 @@ REFUSALS = {  # 01's table of host calls and their numbers; no other of them can
     5: "image header breaks a rule, or byte 0 does not fit the image's length",
 }
 STREAM = b"ON\n022000\n"
-COMMANDS = ("factory", "show", "run")
-UNKNOWN = ("Show", "shows", "sho", "", "FACTORY", "--out", "-x", "--version", "-", "show ", "16", "tag.img")
+COMMANDS = ("factory", "show", "run", "tray")
+UNKNOWN = ("Show", "shows", "sho", "trays", "Tray", "", "FACTORY", "--out", "-x", "--version", "-", "show ", "16", "tag.img")
 WRONG_WORDS = {  # the words after each command, with the one that has to be named
     "factory": (([], ""), (["16"], ""), (["16", SESSION_UID], ""), (["tag.img"], ""),
                 (["-x", "16", SESSION_UID, "tag.img"], "-x"), (["16", SESSION_UID, "--out", "tag.img"], "--out"),
@@ -38,6 +38,10 @@ WRONG_WORDS = {  # the words after each command, with the one that has to be nam
             (["-"], "'-'"), (["-", "session.txt"], "'-'"), (["-", "--out", "out.img"], "'-'"),
             (["tag.img", "--out", "-"], "-"), (["tag.img", "session.txt", "--out", "-"], "-"),
             (["--Out", "out.img", "tag.img"], "--Out"), (["tag.img", "---out", "out.img"], "---out")),
+    "tray": ((["-x"], "-x"), ([SESSION_UID, "--all"], "--all"), (["--Trace", SESSION_UID], "--Trace"),
+             (["--trace=1", SESSION_UID], "--trace=1"), (["-t", SESSION_UID], "-t"), (["--"], "--"),
+             (["-" + SESSION_UID], "-" + SESSION_UID), (["-tag.img"], "-tag.img"), (["---trace"], "---trace"),
+             (["--out", "out.img", "tag.img"], "--out")),
 }
 
 

@@ -112,6 +112,8 @@ def call_branches():
     names += under("save", "refusal-4.image refusal-1.memory refusal-1.memory-does-not-fit"
                    " done-1.field-off done-1.field-on done-2.field-off done-2.field-on")
     names += under("factory", "refusal-1.memory done-1 done-2")
+    names += under("search", "refusal-6 refusal-7 refusal-18 list-full entries-after")
+    names += under("search", [f"mask-{bits}" for bits in range(0, 64, 4)])
     for call in ("event", "save"):
         names += under(f"{call}.refusal-3", HEADER_FAULTS + PASSING_FAULTS)
     return names
@@ -125,13 +127,15 @@ def program_branches():
         under("lines", "last-without-newline empty-input")
         + under("tagrun", "ON OFF EOF request question.empty question.short question.long"
                 " question.odd question.digit")
-        + under("casebook", "ON OFF EOF MEM ROOM REC PUT REQ LOAD SAVE FACTORY")
+        + under("casebook", "ON OFF EOF MEM ROOM REC PUT REQ LOAD SAVE FACTORY SEARCH")
         + under("casebook.question", "line.empty line.word")
         + [name for word in ("MEM", "ROOM", "SAVE") for name in under(f"casebook.question.{word}", number_faults)]
         + [name for word in ("REC", "REQ", "LOAD", "FACTORY")
            for name in under(f"casebook.question.{word}", hex_faults)]
         + under("casebook.question", "REC.record-short FACTORY.uid-short")
-        + under("casebook.question.PUT", "no-space no-second-space number number-over digit odd bytes-over"))
+        + [name for word in ("PUT", "SEARCH") for name in under(
+            f"casebook.question.{word}", "no-space no-second-space number number-over digit odd bytes-over")]
+        + under("casebook.question", "SEARCH.uid-short"))
 
 
 def all_branches():

@@ -9,6 +9,7 @@ from .crc import crc
 from .frame import UID_BYTES
 from .lines import hex_of, is_hex
 from .record import NoRecord, factory_record
+from .search import search
 from .sizes import LONGEST_ANSWER, SIZES, size_of_memory
 from .tag import EOF, OFF, ON
 
@@ -16,7 +17,9 @@ MOST_MEMORY = 9000
 MOST_ROOM = 11000
 MOST_FRAME = 1100
 MOST_IMAGE = 8300
+MOST_UIDS = MOST_ENTRIES = 300
 FRESH = b"\xEE"
+FRESH_ENTRY = int.from_bytes(FRESH * UID_BYTES, "little")
 EVENT_WORDS = {b"ON": ON, b"OFF": OFF, b"EOF": EOF}
 NUMBER = re.compile(rb"0|[1-9][0-9]*")
 
@@ -34,7 +37,7 @@ class Casebook:
         self.record = bytes_of_record(factory_record(0, SIZES[0]), SIZES[0])
         self.words = {b"MEM": self.lend_memory, b"ROOM": self.lend_room, b"REC": self.set_record,
                       b"PUT": self.put, b"REQ": self.request, b"LOAD": self.load, b"SAVE": self.save,
-                      b"FACTORY": self.factory}
+                      b"FACTORY": self.factory, b"SEARCH": self.search}
 
     def answer(self, line):
         """The answer line; 'A line of no such form answers `?` and changes nothing'."""
@@ -77,9 +80,7 @@ class Casebook:
 
     def put(self, rest):
         """`PUT at hex`: bytes into the memory, within it."""
-        at, space, digits = rest.partition(b" ")
-        if not space:
-            raise NoForm("no-second-space")
+        at, digits = two_parts(rest)
         start = number_of(at, len(self.memory))
         data = bytes_of(digits, len(self.memory) - start)
         self.memory[start:start + len(data)] = data
@@ -112,6 +113,19 @@ class Casebook:
         result = host.factory(NoRecord("not looked at"), self.memory, int.from_bytes(uid, "little"))
         return self.report(result, self.room)
 
+    def search(self, rest):
+        """`SEARCH n hex`: a list of n fresh entries, and tags by their UIDs; nothing that is lent is looked at."""
+        room, digits = two_parts(rest)
+        entries = [FRESH_ENTRY] * number_of(room, MOST_ENTRIES)
+        data = bytes_of(digits, UID_BYTES * MOST_UIDS)
+        if len(data) % UID_BYTES:
+            raise NoForm("uid-short")
+        uids = [int.from_bytes(data[at:at + UID_BYTES], "little") for at in range(0, len(data), UID_BYTES)]
+        found = search(uids, entries)
+        as_bytes = b"".join(entry.to_bytes(UID_BYTES, "little") for entry in entries)
+        shown = hex_of(as_bytes[:UID_BYTES * found.count]) or "-"
+        return f"{found.number} {found.requests} {shown} {crc(as_bytes):04X}"
+
     def read_record(self):
         """The record of the 72 bytes; without a fitting memory there is none."""
         size = size_of_memory(len(self.memory))
@@ -124,6 +138,14 @@ class Casebook:
         answer = hex_of(buffer[:result.length]) or "-"
         return (f"{result.number} {result.length} {answer} {hex_of(self.record)}"
                 f" {crc(self.memory):04X} {crc(buffer):04X}")
+
+
+def two_parts(rest):
+    """A number and the digits after the space behind it."""
+    number, space, digits = rest.partition(b" ")
+    if not space:
+        raise NoForm("no-second-space")
+    return number, digits
 
 
 def number_of(text, most):

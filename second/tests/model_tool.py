@@ -3,6 +3,7 @@
 import contextlib
 import fcntl
 import io
+import itertools
 import os
 import re
 import signal
@@ -14,16 +15,20 @@ sys.path.insert(0, os.path.dirname(os.path.dirname(os.path.realpath(__file__))))
 
 from tagmodel import host, rights
 from tagmodel.record import ALL_LOCKS
+from tagmodel.search import search
 from tagmodel.session import Session
 from tagmodel.sizes import BLOCK_BYTES, HEADER_BYTES, SIZES, size_of_image
+from tagmodel.tray import Tray
 
 READ_MOST = 8257  # one byte more than the longest image
 SIZE_WORDS = {"16": SIZES[0], "64": SIZES[1]}
-USAGE = {"factory": "factory 16|64 UID IMAGE", "show": "show IMAGE", "run": "run IMAGE [SESSION] [--out FILE]"}
+USAGE = {"factory": "factory 16|64 UID IMAGE", "show": "show IMAGE", "run": "run IMAGE [SESSION] [--out FILE]",
+         "tray": "tray [--trace] [UID | FILE | -].."}
 EXAMPLES = {
     "factory": ["factory 16 E002230401D6C8F0 tag.img"],
     "show": ["factory 64 E0:02:23:04:01:D6:C8:F0 tag.img", "show tag.img"],
     "run": ["factory 16 E002230401D6C8F0 tag.img", "run tag.img examples/session.txt"],
+    "tray": ["tray --trace E002230401D6C8F0 E0:02:23:04:01:D6:C8:E0"],
 }
 UID = re.compile(r"[0-9A-Fa-f]{2}([ :]*[0-9A-Fa-f]{2}){7}")
 REFUSALS = {4: "image is not 2,112 or 8,256 bytes",
@@ -34,6 +39,10 @@ SIGNALS = (signal.SIGINT, signal.SIGTERM, signal.SIGHUP, signal.SIGQUIT)
 REPLACED_LENGTHS = (0, 2112, 8256)
 NO_IMAGE = ("no image is written",)
 NOT_IMAGES = ("-",)
+OPTIONS = (("run", "--out"), ("tray", "--trace"))
+ENOUGH_TAGS = 257  # with so many nothing more is looked at
+PASSED_OVER = " \t\r"  # at the ends of a line
+NO_UID = "a UID is 16 hex digits, as E002230401D6C8F0 or E0:02:23:04:01:D6:C8:F0"
 
 
 class Stop(Exception):
@@ -121,6 +130,11 @@ def write_file(path, contents):
 def load(path):
     """Record and memory of an image, and its bytes."""
     image = read_image(path)
+    return (*tag_of_image(path, image), image)
+
+
+def tag_of_image(path, image):
+    """Record and memory of an image that was read."""
     size = size_of_image(len(image)) or SIZES[0]
     memory = bytearray(size.memory_bytes)
     result = host.load(None, memory, image)
@@ -128,7 +142,7 @@ def load(path):
         length = f"over {READ_MOST - 1:,}" if len(image) == READ_MOST else f"{len(image):,}"
         more = f"; it has {length} bytes" if result.number == 4 else ""
         raise Stop(1, f"{path}: refused {result.number}: {REFUSALS[result.number]}{more}")
-    return result.record, memory, image
+    return result.record, memory
 
 
 def save(path, record, memory):
@@ -136,6 +150,12 @@ def save(path, record, memory):
     image = bytearray(HEADER_BYTES + len(memory))
     host.save(record, memory, image)
     write_file(path, image)
+
+
+def factory_tag(uid, size=SIZES[0]):
+    """Record and memory of a factory tag whose UID is written so."""
+    memory = bytearray(size.memory_bytes)
+    return host.factory(None, memory, int(re.sub("[ :]", "", uid), 16)).record, memory
 
 
 def factory(*words):
@@ -149,9 +169,7 @@ def factory(*words):
         raise wrong("factory", f"{size}: a size is 16 or 64")
     if not UID.fullmatch(uid):
         raise wrong("factory", f"{uid}: a UID is 16 hex digits")
-    memory = bytearray(SIZE_WORDS[size].memory_bytes)
-    number = int(re.sub("[ :]", "", uid), 16)
-    save(path, host.factory(None, memory, number).record, memory)
+    save(path, *factory_tag(uid, SIZE_WORDS[size]))
 
 
 def area_text(record, blocks, area):
@@ -220,7 +238,8 @@ def lines_of(path, name):
 def answered(line, *more):
     """Writes output, whole, before more is read; where it cannot, more may be said."""
     try:
-        os.write(1, line)
+        while line:
+            line = line[os.write(1, line):]
     except OSError as error:
         raise Stop(2, f"standard output: not written: {error.strerror}", *more) from error
 
@@ -287,7 +306,155 @@ def follow(path, source, out, is_back):
         print(f"uistermo: {no_form_text(name, wrong_lines, session.number)}", file=sys.stderr)
 
 
-COMMANDS = {"factory": factory, "show": show, "run": run}
+# ---- trays
+
+
+def is_image(start):
+    """Whether a file that begins so is an image; else it is a text."""
+    return b"\x00" in start
+
+
+def numbered(lines):
+    """Lines are counted from 1, empty ones too."""
+    return enumerate(lines, 1)
+
+
+def mistyped(text):
+    """A line that is no UID, from a keyboard: it is named, and the others are taken."""
+    print(f"uistermo: {text}; this line is not taken", file=sys.stderr, flush=True)
+
+
+def tags_of_lines(lines, name, is_typed=False):
+    """A factory tag for each line that is not empty."""
+    for number, line in numbered(lines):
+        text = (line[:-1] if line.endswith(b"\n") else line).decode("latin-1").strip(PASSED_OVER)
+        if text and not UID.fullmatch(text):
+            if not is_typed:
+                raise Stop(2, f"{name}: line {number}: {NO_UID}")
+            mistyped(f"{name}: line {number}: {NO_UID}")
+        elif text:
+            yield factory_tag(text)
+
+
+def typed_lines(source):
+    """Lines from a keyboard, to its first end: it could be read on after that."""
+    line = b"\n"
+    while line.endswith(b"\n"):
+        line = source.readline()
+        yield line
+
+
+def typed_tags(source, name):
+    """The tags of a keyboard."""
+    print("uistermo: UIDs from the keyboard, one a line: Ctrl-D ends them", file=sys.stderr, flush=True)
+    yield from tags_of_lines(typed_lines(source), name, True)
+
+
+def tags_of_input():
+    """The tags of standard input."""
+    try:
+        with open(0, "rb", closefd=False) as source:
+            tags_of = typed_tags if source.isatty() else tags_of_lines
+            yield from tags_of(source, "standard input")
+    except OSError as error:
+        raise Stop(2, f"standard input: {error.strerror}") from error
+
+
+def tags_of_file(path):
+    """The tag of an image, or those of a text."""
+    try:
+        with open(path, "rb") as file:
+            if file.isatty():
+                yield from typed_tags(file, path)
+                return
+            start = file.read(READ_MOST)
+            if is_image(start):
+                yield tag_of_image(path, start)
+            else:
+                yield from tags_of_lines(itertools.chain(io.BytesIO(start + file.readline()), file), path)
+    except OSError as error:
+        raise Stop(2, f"{path}: {error.strerror}; and {NO_UID}") from error
+
+
+def in_turn(words):
+    """Standard input is taken after all other words."""
+    return sorted(words, key=lambda word: word == "-")
+
+
+def tags_of_words(words):
+    """The tags of all words."""
+    for word in in_turn(words):
+        if word == "-":
+            yield from tags_of_input()
+        elif UID.fullmatch(word):
+            yield factory_tag(word)
+        else:
+            yield from tags_of_file(word)
+
+
+def comes_again(uids):
+    """The first UID that was there before."""
+    return next(uid for place, uid in enumerate(uids) if uid in uids[:place])
+
+
+def refuse_tray(uids):
+    """Refusals 6 and 7."""
+    number = search(uids, [0] * len(uids)).number
+    if number:
+        text = "more than 256 tags" if number == 6 else f"two UIDs are equal; {comes_again(uids):016X} is there twice"
+        raise Stop(1, f"tray: refused {number}: {text}")
+
+
+def mask_text(mask):
+    """The digits that UIDs must end in."""
+    return "".join(f"{group:X}" for group in mask[::-1]) if mask else "-"
+
+
+def sign(heard):
+    """What a slot heard."""
+    return "." if not heard else "1" if len(heard) == 1 else "*"
+
+
+def request_lines(requests, numbers, mask=(), before=""):
+    """A request with its slots, and all that follow from it."""
+    asked = requests[numbers[mask] - 1]
+    yield (f"{before}request {numbers[mask]} {asked.frame.hex().upper()} mask {mask_text(mask)} "
+           f"slots {''.join(map(sign, asked.slots))}")
+    for slot, heard in enumerate(asked.slots):
+        start = f"{'  ' * (len(mask) + 1)}slot {slot} "
+        if len(heard) > 1:
+            yield from request_lines(requests, numbers, (*mask, slot), start + "collision, ")
+        elif heard:
+            yield f"{start}{heard[0]:016X}"
+
+
+def request_numbers(requests):
+    """By mask, in the order sent."""
+    return {asked.mask: number for number, asked in enumerate(requests, 1)}
+
+
+def uid_lines(found):
+    """The UIDs in the order found."""
+    return [f"{uid:016X}" for uid in found]
+
+
+def tray(*words):
+    """tray [--trace] [UID | FILE | -].."""
+    for word in ("--trace", "-"):
+        if words.count(word) > 1:
+            raise wrong("tray", f"'{word}': it is there twice")
+    places = [word for word in words if word != "--trace"] or ["-"]
+    tags = list(itertools.islice(tags_of_words(places), ENOUGH_TAGS))
+    refuse_tray([record.uid for record, _ in tags])
+    on_it = Tray()
+    for record, memory in tags:
+        on_it.put(record, memory)
+    found, requests = on_it.search()
+    lines = list(request_lines(requests, request_numbers(requests))) if "--trace" in words else []
+    answered("\n".join([*lines, *uid_lines(found), f"{len(requests)} requests", ""]).encode("ascii"))
+
+
+COMMANDS = {"factory": factory, "show": show, "run": run, "tray": tray}
 
 
 def do(words):
@@ -298,18 +465,18 @@ def do(words):
     if command in ("-h", "--help", "help"):
         print("\n".join(USAGE.values()))
     elif command not in COMMANDS:
-        raise Stop(2, f"{command}: no command; the commands are factory, show and run")
+        raise Stop(2, f"{command}: no command; the commands are factory, show, run and tray")
     elif "-h" in rest or "--help" in rest:
         print(f"usage: uistermo {USAGE[command]}\n\nExample:")
         for line in EXAMPLES[command]:
             print(f"  bin/uistermo {line}")
     else:
         for word in rest:
-            if word.startswith("-") and word != "-" and (word, command) != ("--out", "run"):
+            if word.startswith("-") and word != "-" and (command, word) not in OPTIONS:
                 raise wrong(command, f"{word}: no option of {command}")
         if command == "show" and len(rest) != 1:
             raise wrong(command, f"'{rest[1]}' is a word too many" if rest else "one image")
-        if command != "run" and rest and rest[-1] in NOT_IMAGES:
+        if command in ("factory", "show") and rest and rest[-1] in NOT_IMAGES:
             raise wrong(command, "'-' is no image")
         COMMANDS[command](*rest)
 

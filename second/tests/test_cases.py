@@ -1,6 +1,7 @@
 """The generator, the branch counts and the comparison."""
 
 import os
+import re
 import sys
 import unittest
 from unittest import mock
@@ -83,6 +84,24 @@ class AddedKinds(unittest.TestCase):
             lines = list(casebook_lines(seed, 1))
             found = {answer[0] for each, answer in zip(lines, self.answers(lines)) if each.startswith(b"FACTORY")}
             self.assertEqual(found, {"0", "1", "?"}, seed)
+
+    def test_fresh_cases_have_searches(self):
+        """In the first group of any seed some take sixteen requests or more, some are refused, some are of no form."""
+        for seed in range(1, 6):
+            lines = list(casebook_lines(seed, 1))
+            answered = [answer.split(" ") for each, answer in zip(lines, self.answers(lines)) if each.startswith(b"SEARCH")]
+            self.assertTrue({"0", "7", "18", "?"} <= {parts[0] for parts in answered} <= {"0", "6", "7", "18", "?"}, seed)
+            self.assertTrue(any(parts[0] == "0" and int(parts[1]) >= 16 for parts in answered), seed)
+
+    def test_searches_of_every_size(self):
+        """Twenty turns have more than 40 sizes of trays, 0, 256 and 257 among them."""
+        with mock.patch.object(casebook_cases, "ADDED", casebook_cases.ADDED[1:]):
+            lines = list(added_lines(3, 20))
+        sizes = [len(each.split(b" ")[2]) // 16 for each in lines
+                 if re.fullmatch(rb"SEARCH (0|[1-9][0-9]?|[12][0-9][0-9]|300) (([0-9A-F]{16}){0,300})", each)]
+        self.assertTrue({0, 1, 2, 3, 4, 5, 6, 7, 8, 16, 32, 256, 257} <= set(sizes))
+        self.assertGreater(len(set(sizes)), 40)
+        self.assertLessEqual(max(sizes), 300)
 
     def test_other_seeds_have_others(self):
         self.assertEqual(len({b"".join(added_lines(seed, 1)) for seed in range(1, 30)}), 29)

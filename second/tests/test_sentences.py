@@ -1,4 +1,4 @@
-"""The cases for 01's sentences: each has its own name, quotes 01, stands alone, and the model answers as it says."""
+"""The cases for sentences of 01 and 02: each has its own name, quotes its document, stands alone, and the model answers so."""
 
 import os
 import re
@@ -14,7 +14,8 @@ from worked.examples import Step, faults
 
 from .support import FOLDER, run_program
 
-DOCUMENT = os.environ.get("DOCUMENT_01")  # the file of document 01, which is not in this repository
+# The files of the documents, which are not in this repository; None where the environment names none.
+DOCUMENTS = {number: os.environ.get(f"DOCUMENT_{number}") for number in ("01", "02")}
 
 
 def unfound_words(words, text):
@@ -43,22 +44,29 @@ class Cases(unittest.TestCase):
         for name in names:
             self.assertRegex(name, r"^[a-z0-9]+(-[a-z0-9]+)*$")
 
-    @unittest.skipIf(DOCUMENT is None, "DOCUMENT_01 does not name the file of document 01")
-    def test_words_stand_in_01(self):
-        with open(DOCUMENT, encoding="utf-8") as file:
+    def words_stand_in(self, number, cases):
+        if DOCUMENTS[number] is None:
+            self.skipTest(f"DOCUMENT_{number} does not name the file of document {number}")
+        with open(DOCUMENTS[number], encoding="utf-8") as file:
             text = re.sub(r"\s+", " ", file.read())
-        for case in CASES + SESSION_CASES:
+        for case in cases:
             self.assertIsNone(unfound_words(case.words, text), case.name)
+
+    def test_words_stand_in_01(self):
+        self.words_stand_in("01", [case for case in CASES if case.document == "01"] + list(SESSION_CASES))
+
+    def test_words_stand_in_02(self):
+        self.words_stand_in("02", [case for case in CASES if case.document == "02"])
 
     def test_otherwise_is_short(self):
         for case in CASES + SESSION_CASES:
             self.assertTrue(0 < len(case.otherwise) <= 240, case.name)
 
     def test_each_lends_what_it_needs(self):
-        """Memory, room and record, before anything is called."""
+        """Memory, room and record, before anything is called; a search needs none of them."""
         for case in CASES:
-            words = [step.line.split(b" ")[0] for step in case.steps[:3]]
-            self.assertEqual(words, [b"MEM", b"ROOM", b"REC"], case.name)
+            words = [step.line.split(b" ")[0] for step in case.steps]
+            self.assertTrue(words[:3] == [b"MEM", b"ROOM", b"REC"] or set(words) == {b"SEARCH"}, case.name)
 
     def test_model_answers_so(self):
         """One after the other, as they are stored, and each alone."""
@@ -111,6 +119,8 @@ class Listing(unittest.TestCase):
         self.assertEqual(expected_text(step), "number 0, length 3, answer 0078F0, record from byte 64: 00, "
                                               "record from byte 70: 0102, memory F078")
         self.assertEqual(expected_text(Step(b"MEM 0")), "ok")
+        self.assertEqual(expected_text(Step(b"SEARCH 0 ", "", room="0000", requests=1)),
+                         "number 0, requests 1, answer -, room 0000")
 
     def test_one_case(self):
         code, output = run_program("stored", b"", "--case", "check-2-under-4")

@@ -50,6 +50,11 @@ class Worked(unittest.TestCase):
                        f"0 3 0078F0 {'00' * 72} F078 1234", f"0 3 0078F0 {record} F079 1234",
                        f"0 3 0078F0 {record} F078 1235", "ok", "?", ""):
             self.assertNotEqual(faults(step, answer), [], answer)
+        step = Step(b"SEARCH 1 ..", "F0C8D601042302E0", room="1234", requests=1)
+        self.assertEqual(faults(step, "0 1 F0C8D601042302E0 1234"), [])
+        for answer in ("6 1 F0C8D601042302E0 1234", "0 2 F0C8D601042302E0 1234", "0 1 - 1234", "0 1 F0C8D601042302E0 1235",
+                       "0 1 F0C8D601042302E0", "0 1 F0C8D601042302E0 1234 1234", "ok", "?"):
+            self.assertNotEqual(faults(step, answer), [], answer)
         self.assertEqual(faults(Step(b"MEM 1"), "ok"), [])
         self.assertNotEqual(faults(Step(b"MEM 1"), "?"), [])
         self.assertNotEqual(faults(Step(b"EOF", ""), f"0 3 0078F0 {record} F078 1234"), [])

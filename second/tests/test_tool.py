@@ -11,15 +11,16 @@ import unittest
 
 from generator.dice import Dice
 from outside import (tool_factory, tool_files, tool_interrupts, tool_limits, tool_meanwhile, tool_pages,
-                     tool_sessions, tool_show, tool_tags, tool_words)
+                     tool_sessions, tool_show, tool_tags, tool_tray, tool_tray_files, tool_words)
 from outside.bad_input import Settings
 from outside.tool_runs import KEPT, Trial, changes, said, snapshot, wrong_words
 from tagmodel import rights
 from tagmodel.record import factory_record
 
-from .support import FOLDER, LARGE, SMALL, UID
+from .support import FOLDER, LARGE, SMALL, UID, framed
 
-MODEL = [sys.executable, os.path.join(FOLDER, "tests", "model_tool.py")]
+PYTHON = [sys.executable, "-S"]  # without the packages that a machine may have beside the library it starts sooner
+MODEL = [*PYTHON, os.path.join(FOLDER, "tests", "model_tool.py")]
 SESSIONS = (None, 0, 1, 2, 3)
 SESSION = os.path.join(os.path.dirname(FOLDER), "examples", "session.txt")
 README = """# A page
@@ -52,7 +53,7 @@ and so on
 
 def wrong_tool(name):
     """The command of a tool with something wrong."""
-    return [sys.executable, os.path.join(FOLDER, "tests", "wrong_tools.py"), name]
+    return [*PYTHON, os.path.join(FOLDER, "tests", "wrong_tools.py"), name]
 
 
 def faults(command, *trials, limit=60):
@@ -189,6 +190,44 @@ def line_by_line(trial):
     tool_interrupts.to_the_end(trial, image, b"ON\n0226\n", ["run", "tag.img", "--out", "new.img"], "new.img")
 
 
+def collisions(trial):
+    """Words of which two pairs collide, one of them twice; the second request has a mask of two digits."""
+    uids = [0x2AB, 0x1CD, 0x1AB, 0x7, 0xCB, 0x2CD]
+    tool_tray.finds(trial, "collisions", [*tool_tray.words_of(uids), "--trace"], uids, True)
+
+
+def equal_uids(trial):
+    """Two pairs of equal UIDs."""
+    tool_tray.equal(trial, "A B C B A", tool_tray.words_of([1, 2, 3, 2, 1]), 2)
+
+
+def many_tags(trial):
+    """257 tags, and then what is not to be looked at."""
+    trial.put("tray.txt", tool_tray.text_of(range(257)) + b"no UID\n")
+    tool_tray.too_many(trial, "257 tags", ["tray.txt", "none.txt"])
+
+
+def crlf(trial):
+    """Lines that end in CR LF."""
+    tool_tray_files.one_text(trial, "CR LF")
+
+
+def wrong_line(trial):
+    """A line that is no UID, after empty ones."""
+    tool_tray_files.wrong_line(trial, b"no UID")
+
+
+def mistyped(trial):
+    """Lines from a keyboard, some of which are no UID."""
+    for where in ("in the middle", "at the end, without newline", "in most lines"):
+        tool_tray_files.typed(trial, where)
+
+
+def text_like_an_image(trial):
+    """88 lines."""
+    tool_tray_files.text_of_length(trial, 88, 2112)
+
+
 class Model(unittest.TestCase):
     """The model of the tool is sound, so no trial finds a fault."""
 
@@ -217,6 +256,19 @@ class Model(unittest.TestCase):
     def test_pages(self):
         self.no_fault(lambda trial: tool_pages.help_pages(trial, SESSION))
 
+    def test_trays(self):
+        self.no_fault(tool_tray.printed_example, tool_tray.images, tool_tray.twice, tool_tray.unread_input, collisions,
+                      equal_uids, many_tags, tool_tray.endless, lambda trial: tool_tray.depths(trial, (15,)))
+
+    def test_trays_of_files(self):
+        self.no_fault(crlf, wrong_line, text_like_an_image, tool_tray_files.unwritable,
+                      lambda trial: tool_tray_files.unreadable_word(trial, "E0-02", errno.ENOENT),
+                      lambda trial: tool_tray_files.wrong_image(trial, "one byte", b"\x00"))
+
+    def test_trays_that_are_typed(self):
+        self.no_fault(mistyped, tool_tray_files.from_a_terminal, tool_tray_files.typed_and_refused,
+                      tool_tray_files.typed_at_once, tool_tray_files.before_input)
+
     def test_output_that_cannot_be_written(self):
         with tempfile.TemporaryDirectory() as folder, contextlib.redirect_stdout(io.StringIO()) as printed:
             trial = Trial(MODEL, tempfile.mkdtemp(dir=folder))
@@ -239,7 +291,10 @@ class Wrong(unittest.TestCase):
     def test_a_tool_that_does_nothing(self):
         for run in (factory, show, one_session, broken, too_long, words, link, not_a_place, small_files, interrupt,
                     line_by_line, ignored, no_reader, tool_files.pipes, other_files, tool_files.to_streams,
-                    tool_meanwhile.no_image_any_more, no_forms,
+                    tool_meanwhile.no_image_any_more, no_forms, tool_tray.printed_example, collisions, equal_uids,
+                    many_tags, crlf, wrong_line, text_like_an_image, mistyped, tool_tray.twice, tool_tray.equal_uids,
+                    tool_tray_files.from_a_terminal, tool_tray_files.typed_and_refused,
+                    tool_tray_files.typed_at_once, tool_tray_files.before_input, tool_tray_files.unwritable,
                     lambda trial: tool_pages.help_pages(trial, SESSION)):
             self.assertGreater(faults(["true"], run)[0], 0, run)
 
@@ -261,6 +316,30 @@ class Wrong(unittest.TestCase):
         self.assertIn("password 2", self.found("another-area", show))
         self.assertIn("(LOCK_CFG)", self.found("lock-names", show))
         self.assertIn("passwords shown: expected [], found [0, 1, 2, 3]", self.found("passwords", show))
+
+    def test_trays(self):
+        self.assertIn("0000000000000007\n00000000000000CB\n", self.found("uids-as-numbers", collisions))
+        self.assertIn("0700000000000000", self.found("uids-lowest-first", collisions))
+        self.assertIn("mask AB slots", self.found("mask-lowest-first", collisions))
+        self.assertIn("slots .......1...*.*..", self.found("signs", collisions))
+        self.assertIn("request 4 ", self.found("requests-by-length", collisions))
+        self.assertIn("0000000000000002 is there twice", self.found("last-again", equal_uids))
+
+    def test_what_trays_are_read_from(self):
+        self.assertIn("status: expected 1, found 0", self.found("tray-of-256", many_tags))
+        self.assertIn("line 258: a UID", self.found("tray-without-end", many_tags))
+        self.assertIn("no end within the limit", self.found("tray-without-end", tool_tray.endless, limit=1))
+        self.assertIn("refused 5: image header", self.found("images-by-length", text_like_an_image))
+        self.assertIn("line 1: a UID", self.found("carriage-returns", crlf))
+        self.assertIn("line 4: a UID", self.found("filled-lines", wrong_line))
+
+    def test_trays_that_are_typed(self):
+        self.assertIn("status: expected 0, found 2", self.found("mistyped-lines", mistyped))
+        self.assertIn("said of b'no\\n'", self.found("lines-of-keyboards", tool_tray_files.typed_at_once, limit=1))
+        printed = self.found("input-in-its-place", tool_tray_files.before_input)
+        self.assertIn("['-', 'none.txt']: left in the pipe: expected 17 bytes", printed)
+        self.assertIn("['-', 'none.txt'], a terminal: standard error", printed)
+        self.assertIn("is there twice", self.found("input-in-its-place", tool_tray.equal_uids))
 
     def test_files(self):
         self.assertIn("file tag.img: expected 2,112 bytes", self.found("in-place", small_files))
@@ -308,6 +387,17 @@ class Expected(unittest.TestCase):
             "Area 3    no blocks, protection 00, no password: read always, write always",
             "Area 4    no blocks, protection 00, no password: read always, write always",
             "memory    not empty, other than 00h in 2 of 512 blocks, first in block 0", ""])
+
+    def test_picture(self):
+        """Slot Bh hears three, of which 1ABh and 2ABh have the next group in common. CRCs are worked bit by bit."""
+        frames = [framed(text).hex().upper() for text in ("060100", "0601040B", "060108AB")]
+        self.assertEqual(tool_tray.printed([0x1AB, 0x7, 0xCB, 0x2AB], True).decode("ascii").split("\n"), [
+            f"request 1 {frames[0]} mask - slots .......1...*....", "  slot 7 0000000000000007",
+            f"  slot 11 collision, request 2 {frames[1]} mask B slots ..........*.1...",
+            f"    slot 10 collision, request 3 {frames[2]} mask AB slots .11.............",
+            "      slot 1 00000000000001AB", "      slot 2 00000000000002AB", "    slot 12 00000000000000CB",
+            "0000000000000007", "00000000000001AB", "00000000000002AB", "00000000000000CB", "3 requests", ""])
+        self.assertEqual(tool_tray.printed([]), b"1 requests\n")
 
     def test_lines_of_no_form(self):
         for stream, text in tool_sessions.NO_FORMS:

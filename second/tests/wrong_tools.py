@@ -1,5 +1,6 @@
 """The tool of model_tool.py with one thing wrong, which the trials have to find: wrong_tools.py WHAT WORDS.."""
 
+import io
 import os
 import shutil
 import signal
@@ -13,6 +14,7 @@ from tests import model_tool
 WAITING = []
 look_at, write_file = model_tool.look_at, model_tool.write_file
 answered, area_text, no_form_text = model_tool.answered, model_tool.area_text, model_tool.no_form_text
+request_numbers = model_tool.request_numbers
 
 
 def write_in_place(path, contents):
@@ -96,6 +98,30 @@ def end_at_a_closed_pipe(line, *more):
     answered(line, *more)
 
 
+def count_filled_lines(lines):
+    """Empty lines are not counted."""
+    number = 0
+    for line in lines:
+        number += bool(line.strip())
+        yield number, line
+
+
+def end_at_a_slip(text):
+    """A mistyped line loses those that were typed before it."""
+    raise model_tool.Stop(2, text)
+
+
+def name_the_last(uids):
+    """Of two pairs that are equal the later is named."""
+    return next(uid for place, uid in reversed(list(enumerate(uids))) if uid in uids[:place])
+
+
+def number_by_length(requests):
+    """Requests are numbered as if all of a length were sent before the longer ones; each stands with its own slots."""
+    requests.sort(key=lambda asked: len(asked.mask))
+    return request_numbers(requests)
+
+
 WRONG = {
     "in-place": ("write_file", write_in_place),
     "over-the-link": ("write_file", write_over_the_link),
@@ -118,6 +144,20 @@ WRONG = {
     "dash": ("NOT_IMAGES", ()),
     "group": ("keep_owner", keep_permissions),
     "refusals": ("REFUSALS", {4: "the image has a wrong length", 5: "the image is broken"}),
+    "uids-as-numbers": ("uid_lines", lambda found: [f"{uid:016X}" for uid in sorted(found)]),
+    "uids-lowest-first": ("uid_lines", lambda found: [uid.to_bytes(8, "little").hex().upper() for uid in found]),
+    "tray-of-256": ("ENOUGH_TAGS", 256),
+    "tray-without-end": ("ENOUGH_TAGS", None),
+    "images-by-length": ("is_image", lambda start: len(start) in model_tool.REPLACED_LENGTHS[1:]),
+    "carriage-returns": ("PASSED_OVER", " \t"),
+    "filled-lines": ("numbered", count_filled_lines),
+    "mistyped-lines": ("mistyped", end_at_a_slip),
+    "lines-of-keyboards": ("typed_lines", lambda source: io.BytesIO(source.read())),
+    "input-in-its-place": ("in_turn", list),
+    "last-again": ("comes_again", name_the_last),
+    "mask-lowest-first": ("mask_text", lambda mask: "".join(f"{group:X}" for group in mask) or "-"),
+    "signs": ("sign", lambda heard: ".1*"[len(heard) > 0]),
+    "requests-by-length": ("request_numbers", number_by_length),
 }
 
 

@@ -1,4 +1,4 @@
-"""The worked examples of the documents and the cases for 01's sentences: the lines that try them, and their answers."""
+"""The worked examples of the documents and the cases for sentences of 01 and 02: lines that try them, and answers."""
 
 from .document_001 import EXAMPLES as EXAMPLES_001
 from .document_003 import EXAMPLES as EXAMPLES_003
@@ -9,7 +9,7 @@ from .sentences import CASES, SESSION_CASES
 
 EXAMPLES = EXAMPLES_01 + EXAMPLES_001 + EXAMPLES_003 + EXAMPLES_004
 
-# All of casebook's in the order of its stored lines: 01's examples and cases, then the examples of the other documents.
+# All of casebook's in the order of its stored lines: 01's examples, all cases, then the examples of the other documents.
 CASEBOOK_PARTS = EXAMPLES_01 + CASES + EXAMPLES_001 + EXAMPLES_003 + EXAMPLES_004
 
 __all__ = ["CASEBOOK_PARTS", "CASES", "EXAMPLES", "SESSION_CASES", "SESSION_INPUT", "SESSION_OUTPUT"]

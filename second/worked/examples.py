@@ -40,7 +40,8 @@ class Step(NamedTuple):
     """A line and what its answer must say: `ok` if `answer` is None, else a call's answer in hex.
 
     `record` names bytes of the 72 by their place; `memory` and `room` are the CRC of their bytes, high byte first
-    (for SAVE the image stands in place of the room).
+    (for SAVE the image stands in place of the room, for SEARCH the list). For SEARCH `answer` has the UIDs found and
+    `requests` is the number of requests; for the others it is None.
     """
 
     line: bytes
@@ -49,6 +50,7 @@ class Step(NamedTuple):
     record: Mapping[int, int] = {}
     memory: Optional[str] = None
     room: Optional[str] = None
+    requests: Optional[int] = None
 
 
 class Example(NamedTuple):
@@ -61,13 +63,14 @@ class Example(NamedTuple):
 
 
 class Case(NamedTuple):
-    """A ruling sentence of 01 tried alone: the name that docs/TRACE.md cites, 01's words (`..` where some are left
-    out), what the lines would answer were the words read otherwise, and the lines with their answers."""
+    """A ruling sentence of 01 or 02 tried alone: the name that docs/TRACE.md cites, the document's words (`..` where
+    some are left out), what the lines would answer were the words read otherwise, and the lines with their answers."""
 
     name: str
     words: str
     otherwise: str
     steps: Tuple[Step, ...]
+    document: str = "01"
 
 
 class SessionCase(NamedTuple):
@@ -200,18 +203,30 @@ def places(record):
     return dict(enumerate(bytes.fromhex(record)))
 
 
+# The parts of an answer line by name: that of a search, and that of any other call.
+SEARCH_PARTS = ("number", "requests", "answer", "room")
+CALL_PARTS = ("number", "length", "answer", "record", "memory", "room")
+
+
+def expected_parts(step):
+    """By name, what the parts of a call's answer line must be; of the others anything is taken."""
+    parts = {"number": str(step.number), "answer": step.answer or "-", "memory": step.memory, "room": step.room}
+    if step.requests is None:
+        parts["length"] = str(len(step.answer) // 2)
+    else:
+        parts["requests"] = str(step.requests)
+    parts.update({f"record byte {place}": f"{value:02X}" for place, value in step.record.items()})
+    return {name: part for name, part in parts.items() if part is not None}
+
+
 def faults(step, answer):
     """What an answer line says otherwise than the document."""
     if step.answer is None:
         return [] if answer == "ok" else [f"expected ok: {answer[:80]}"]
-    parts = answer.split(" ")
-    if len(parts) != 6:
+    names, parts = CALL_PARTS if step.requests is None else SEARCH_PARTS, answer.split(" ")
+    if len(parts) != len(names):
         return [f"expected the answer of a call: {answer[:80]}"]
-    number, length, shown, record, memory, room = parts
-    expected = {"number": (str(step.number), number), "length": (str(len(step.answer) // 2), length),
-                "answer": (step.answer or "-", shown), "memory": (step.memory or memory, memory),
-                "room": (step.room or room, room)}
-    for place, value in step.record.items():
-        expected[f"record byte {place}"] = (f"{value:02X}", record[2 * place:2 * place + 2])
-    return [f"{name}: expected {wanted[:80]}, found {found[:80]}"
-            for name, (wanted, found) in expected.items() if wanted != found]
+    found = dict(zip(names, parts))
+    found.update({f"record byte {place}": found["record"][2 * place:2 * place + 2] for place in step.record})
+    return [f"{name}: expected {wanted[:80]}, found {found[name][:80]}"
+            for name, wanted in expected_parts(step).items() if wanted != found[name]]

@@ -2,7 +2,7 @@
 -- Assumes nothing.
 use Prim.Native.Nat.{ℕ, _+_, _≤_}
 use native.Mathlib.Omega.{arith}
-use mathlib.Core.Path.{_≡_, refl}
+use mathlib.Core.Path.{_≡_, refl, ap}
 use mathlib.Core.Bool.{true, false}
 use mathlib.Core.List.{List}
 use lib.ListN.{length}
@@ -20,17 +20,22 @@ use Rattle.tag.specs.Host.{numberOf, isMemory, fitsImage, isImage, eventDone, L
 use Rattle.tag.proofs.OnlyFrames.{NoFrame, on, off, end, lasts}
 use Rattle.step.specs.declared.Said.{Said}
 use Rattle.step.specs.Gives.{Gives}
+use Rattle.tray.specs.Tray.{SearchGiven, given, searchGiven}
 use Rattle.packed.specs.Bytes.{recordIn, isRecord, recordOf}
 use Rattle.packed.specs.Parts.{PassingLeft}
 use Rattle.cabi.specs.Calls.{resultOf, kindIn, EventLeft, eventLeft, EventLeaves, LoadLeft, FillLeaves, loadLeft, LoadLeaves, SaveLeft, saveLeft, SaveLeaves}
+use Rattle.cabi.specs.Calls.{searchLeft, SearchLeaves}
 
-pub number-most : (r : Refusal) → numberOf r ≤ 5
+pub number-most : (r : Refusal) → numberOf r ≤ 18
 number-most refusal.None = omega arith
 number-most refusal.Memory = omega arith
 number-most refusal.Room = omega arith
 number-most refusal.Record = omega arith
 number-most refusal.Image = omega arith
 number-most refusal.Header = omega arith
+number-most refusal.Tags = omega arith
+number-most refusal.Equal = omega arith
+number-most refusal.Small = omega arith
 
 -- ---- a call that leaves what the definition names
 
@@ -92,3 +97,8 @@ module _ {r m i i′ : List ℕ} where
       → SaveLeaves r m i i′ n
   unfolding saveLeft
   save-taken a b d h = record { result = rw (a, b, d, h .0) (omega arith); image = rw (a, b, d) (h .1) }
+
+pub search-by : {uids x x′ : List ℕ} {number requests : ℕ} → given number requests x′ ≡ searchGiven uids x
+    → SearchLeaves uids x x′ (resultOf number requests)
+unfolding searchLeft
+search-by e = record { result = ap (λ (g : SearchGiven). resultOf (g .number) (g .requests)) e; list = ap (λ (g : SearchGiven). g .list) e }

@@ -7,6 +7,7 @@ use Prim.Native.Nat.{ℕ}
 use Rattle.put.proofs.Only.{one-result}
 use Rattle.tag.proofs.OnlyOne.{ExactlyOne}
 use Rattle.cabi.specs.Calls.{EventLeft, eventLeft, EventLeaves, LoadLeft, FillLeaves, loadLeft, LoadLeaves, SaveLeft, saveLeft, SaveLeaves, factoryLeft, FactoryLeaves}
+use Rattle.cabi.specs.Calls.{SearchLeft, searchLeft, SearchLeaves}
 
 pub one-event : (k : ℕ) (frame r m x : List ℕ) → ExactlyOne (λ (o : EventLeft). EventLeaves k frame r m x (o .bytes) (o .memory) (o .room) (o .result))
 one-event k frame r m x = record {
@@ -42,4 +43,11 @@ one-save r m i = record {
   outcome = saveLeft r m i;
   meets = record { result = refl; image = refl };
   only = λ o p g h i. record { result = one-result (g .result) (h .result) i; image = one-result (g .image) (h .image) i };
+}
+
+pub one-search : (uids x : List ℕ) → ExactlyOne (λ (o : SearchLeft). SearchLeaves uids x (o .list) (o .result))
+one-search uids x = record {
+  outcome = searchLeft uids x;
+  meets = record { result = refl; list = refl };
+  only = λ o p g h i. record { result = one-result (g .result) (h .result) i; list = one-result (g .list) (h .list) i };
 }

@@ -12,6 +12,7 @@ use Rattle.record.specs.declared.Kind.the-variants.{FieldOn, FieldOff, EndOfFra
 use Rattle.tag.specs.Step.{eventOf}
 use Rattle.tag.specs.Image.{headerLength, imageOf}
 use Rattle.tag.specs.Host.{isMemory, fitsImage, leastRoom, isImage, eventDone, LoadGiven, loadGiven, factoryGiven}
+use Rattle.tray.specs.Tray.{searchGiven}
 use Rattle.packed.specs.Bytes.{recordIn, isRecord, recordOf}
 
 -- the refusal's number times 2^32, plus the length l
@@ -106,3 +107,19 @@ saveLeft r m i =
 pub record SaveLeaves (r m i i′ : List ℕ) (n : ℕ) : Type 0 where
   pub result : n ≡ saveLeft r m i .result
   pub image : i′ ≡ saveLeft r m i .image
+
+-- ---- finding every tag on a tray
+
+pub record SearchLeft : Type 0 where
+  pub result : ℕ
+  pub list : List ℕ
+
+-- "the length of the result is the number of requests"
+unfoldable pub searchLeft : List ℕ → List ℕ → SearchLeft
+searchLeft uids x =
+    let g = searchGiven uids x in
+    record { result = resultOf (g .number) (g .requests); list = g .list }
+
+pub record SearchLeaves (uids x x′ : List ℕ) (n : ℕ) : Type 0 where
+  pub result : n ≡ searchLeft uids x .result
+  pub list : x′ ≡ searchLeft uids x .list

@@ -1,5 +1,5 @@
-// The C boundary: the calls of a host over bytes alone, so that the bench's C host links the proved tag. The record is 72 bytes that the
-// caller keeps; any bytes are taken, and those that are no record are refused. `include/uistermo.h` says the same in C.
+// The C boundary: the calls of a host over bytes, and for a search over UIDs, so that the bench's C host links the proved tag. The record is 72 bytes that
+// the caller keeps; any bytes are taken, and those that are no record are refused. `include/uistermo.h` says the same in C.
 use host::fits_image;
 use host::is_image;
 use host::is_memory;
@@ -15,9 +15,9 @@ use record::Kind;
 use record::Refusal;
 ghost use mathlib.Core.Path.{_≡_};
 ghost use Rattle.tag.specs.Host.{numberOf};
-ghost use Rattle.cabi.specs.Calls.{resultOf, kindIn, EventLeaves, LoadLeaves, SaveLeaves, FactoryLeaves};
+ghost use Rattle.cabi.specs.Calls.{resultOf, kindIn, EventLeaves, LoadLeaves, SaveLeaves, FactoryLeaves, SearchLeaves};
 
-// 01's numbers, 0 for none
+// The numbers of 01 and 02, 0 for none
 fn number(r: Refusal) -> u64
     ensures { λ n. ⌜ n ≡ numberOf r ⌝ }
 {
@@ -28,6 +28,9 @@ fn number(r: Refusal) -> u64
         Refusal::Record => 3,
         Refusal::Image => 4,
         Refusal::Header => 5,
+        Refusal::Tags => 6,
+        Refusal::Equal => 7,
+        Refusal::Small => 18,
     }
 }
 
@@ -136,4 +139,14 @@ pub extern "C" fn uistermo_save(bytes: &[u8; RECORD], memory: &[u8], image: &mut
         return refused(Refusal::Record);
     }
     image::writing::save(read_record(bytes), memory, image) as u64
+}
+
+// "the length of the result is the number of requests"
+#[no_mangle]
+pub extern "C" fn uistermo_search(uids: &[u64], list: &mut [u64]) -> u64
+    ensures { λ n. ⌜ SearchLeaves (now (uids .entry)) (now (list .entry)) (now (list .exit)) n ⌝ }
+{
+    let s = tray::search(uids, list);
+    let refusal = s.refusal;
+    number(refusal) * 0x1_0000_0000 + s.requests as u64
 }

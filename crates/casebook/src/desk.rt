@@ -1,19 +1,24 @@
 // What a line does to the lent buffers, and its answer line: first what it lends, of the whole buffers, then what it does, over what is lent.
+use caselines::entries::put_entries;
 use caselines::form::Form;
 use caselines::form::after;
 use caselines::form::form_of;
 use caselines::lent::Lent;
 use caselines::lent::lend;
+use caselines::limits::ENTRIES;
 use caselines::limits::FRAME;
 use caselines::limits::IMAGE;
+use caselines::limits::TAGS;
 use caselines::limits::UID;
+use caselines::limits::UIDS;
 use caselines::row::put_call;
+use caselines::row::put_search;
 use packed::RECORD;
 ghost use Prim.Native.Nat.{_*_, _≤_};
 ghost use lib.ListN.{length};
-ghost use Rattle.caselines.specs.Limits.{frameMost, imageMost, uidLength, rowMost};
+ghost use Rattle.caselines.specs.Limits.{frameMost, imageMost, uidLength, entriesMost, tagsMost, rowMost};
 ghost use Rattle.caselines.specs.Form.{Fits};
-ghost use Rattle.caselines.specs.Row.{Suits};
+ghost use Rattle.caselines.specs.Row.{Suits, SuitsSearch};
 ghost use Rattle.caselines.specs.Lent.{Within};
 ghost use Rattle.casebook.specs.Desk.{Buffers};
 
@@ -90,6 +95,28 @@ fn save(n: usize, tag: &[u8; RECORD], memory: &[u8], out: &mut [u8]) -> usize
     save_into(tag, memory, &mut image[..n], out)
 }
 
+fn search_into(uids: &[u64], list: &mut [u64], out: &mut [u8]) -> usize
+    requires { ⌜ SuitsSearch (length (now list)) (length (now out)) ⌝ }
+    ensures { λ r. ⌜ r ≤ length (now (out .exit)) ⌝ }
+{
+    let result = cabi::uistermo_search(uids, list);
+    put_search(result, uids.len(), list, out)
+}
+
+// "a list of n entries (0 to 300), each entry EEEEEEEEEEEEEEEEh, and tags given by their UIDs"
+fn search(n: usize, digits: &[u8], out: &mut [u8]) -> usize
+    requires { ⌜ (n ≤ entriesMost) × (length (now digits) ≤ 2 * (uidLength * tagsMost)) ⌝ }
+    requires { ⌜ rowMost ≤ length (now out) ⌝ }
+    ensures { λ r. ⌜ r ≤ length (now (out .exit)) ⌝ }
+{
+    let mut bytes = [0u8; UIDS];
+    let k = text::put_bytes(digits, &mut bytes);
+    let mut uids = [0u64; TAGS];
+    let tags = put_entries(&bytes[..k], &mut uids);
+    let mut list = [0xEEEE_EEEE_EEEE_EEEEu64; ENTRIES];
+    search_into(&uids[..tags], &mut list[..n], out)
+}
+
 // "the record, exactly 72 bytes, kept as they stand", "bytes into the memory, within it"
 fn take(digits: &[u8], into: &mut [u8], out: &mut [u8]) -> usize
     requires { ⌜ (length (now digits) ≤ 2 * length (now into)) × (rowMost ≤ length (now out)) ⌝ }
@@ -120,6 +147,7 @@ fn act(
         Form::Factory(from) => factory(after(line, from), tag, memory, room, out),
         Form::Bytes { at, from } => take(after(line, from), &mut memory[at..], out),
         Form::Event { kind, from } => event(kind, after(line, from), tag, memory, room, out),
+        Form::Search { entries, from } => search(entries, after(line, from), out),
         Form::NoForm => put::copy(b"?\n", out),
     }
 }

@@ -14,9 +14,9 @@ use Rattle.packed.specs.Bytes.{recordLength}
 use Rattle.caselines.specs.declared.form.Number.{Number}
 use Rattle.caselines.specs.declared.form.Number.the-variants.{Of, NoNumber}
 use Rattle.caselines.specs.declared.form.Form.{Form}
-use Rattle.caselines.specs.Limits.{memoryMost, roomMost, imageMost, frameMost, uidLength}
+use Rattle.caselines.specs.Limits.{memoryMost, roomMost, imageMost, frameMost, uidLength, entriesMost, tagsMost}
 use Rattle.caselines.specs.Form.{begins, numberIn, memoryOf, roomOf, saveOf, isHex, recordForm, requestForm, loadForm, factoryForm}
-use Rattle.caselines.specs.Form.{spaceIn, placedForm, placedBy, bytesForm, hexForm, numberForm, formOf, Fits}
+use Rattle.caselines.specs.Form.{spaceIn, placedForm, placedBy, bytesForm, tagsForm, tagsBy, searchForm, hexForm, numberForm, formOf, Fits}
 use Rattle.caselines.proofs.Figures.{AtMost, number-most}
 
 hex-most : (most : ℕ) (s : List ℕ) → isHex most s ≡ true → length s ≤ most
@@ -76,6 +76,22 @@ module _ (memory line : ℕ) where
       if-one (Fits memory line) (leb (length s) (spaceIn s)) (λ h. tt)
       (λ h. placed-fits (numberIn memory (take (spaceIn s) s)) (spaceIn s) s (number-most memory (take (spaceIn s) s)) e)
 
+  tags-fits : (n : Number) (k : ℕ) (s : List ℕ) → AtMost entriesMost n → length s ≡ line - 7 → Fits memory line (tagsBy n k s)
+  unfolding tagsForm
+  tags-fits (Of n) k s h e =
+      let uids = drop (k + 1) s in
+      let most = 2 * (uidLength * tagsMost) in
+      if-one (Fits memory line) (eqb (length uids % (2 * uidLength)) 0 && isHex most uids)
+      (λ g. (h, omega (arith, simp length-drop at (hex-most most uids (both (eqb (length uids % (2 * uidLength)) 0) _ g .1)))))
+      (λ g. tt)
+  tags-fits NoNumber k s h e = tt
+
+  search-fits : (s : List ℕ) → length s ≡ line - 7 → Fits memory line (searchForm s)
+  unfolding searchForm
+  search-fits s e =
+      if-one (Fits memory line) (leb (length s) (spaceIn s)) (λ h. tt)
+      (λ h. tags-fits (numberIn entriesMost (take (spaceIn s) s)) (spaceIn s) s (number-most entriesMost (take (spaceIn s) s)) e)
+
 module _ (memory : ℕ) (l : List ℕ) where
   abbrev OfLine : Form → Type 0
   OfLine f = Fits memory (length l) f
@@ -87,7 +103,8 @@ module _ (memory : ℕ) (l : List ℕ) where
       if-one OfLine (begins l (bytesOfText "PUT ")) (λ h. bytes-fits memory (length l) (drop 4 l) (length-drop 4 l)) (λ h.
       if-one OfLine (begins l (bytesOfText "REQ ")) (λ h. request-fits memory (length l) (drop 4 l) (length-drop 4 l)) (λ h.
       if-one OfLine (begins l (bytesOfText "LOAD ")) (λ h. load-fits memory (length l) (drop 5 l) (length-drop 5 l)) (λ h.
-      if-one OfLine (begins l (bytesOfText "FACTORY ")) (λ h. factory-fits memory (length l) (drop 8 l) (length-drop 8 l)) (λ h. tt)))))
+      if-one OfLine (begins l (bytesOfText "FACTORY ")) (λ h. factory-fits memory (length l) (drop 8 l) (length-drop 8 l)) (λ h.
+      if-one OfLine (begins l (bytesOfText "SEARCH ")) (λ h. search-fits memory (length l) (drop 7 l) (length-drop 7 l)) (λ h. tt))))))
 
   number-fits : OfLine (numberForm memory l)
   unfolding numberForm

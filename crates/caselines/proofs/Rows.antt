@@ -3,7 +3,7 @@
 use mathlib.Core.Path.{_≡_, sym, _∙_}
 use mathlib.Core.Logic.{⊎-elim}
 use mathlib.Core.List.{List, [], _∷_, _++_, append-nil}
-use Prim.Native.Nat.{ℕ, _+_, _-_, _≤_, _<_, min}
+use Prim.Native.Nat.{ℕ, _+_, _-_, _*_, _≤_, _<_, min}
 use native.Mathlib.Omega.{arith}
 use lib.ListN.{length, take, drop, length-append}
 use lib.Seq.{take-all, length-take-le}
@@ -12,8 +12,10 @@ use Rattle.put.proofs.Written.{Next, sum, room, more, whole}
 use Rattle.text.proofs.Pieces.{one-next, begun}
 use Rattle.text.proofs.Texts.{less-or-not, hex-or-most, decimal-length}
 use Rattle.packed.specs.Bytes.{recordLength}
-use Rattle.caselines.specs.Limits.{roomMost, rowMost}
-use Rattle.caselines.specs.Row.{crcHigh, numbersText, pairText, rowText}
+use Rattle.caselines.specs.Limits.{roomMost, rowMost, uidLength, entriesMost}
+use Rattle.caselines.specs.Entries.{entryBytes}
+use Rattle.caselines.specs.Row.{crcHigh, numbersText, pairText, rowText, searchRowText}
+use Rattle.caselines.proofs.Eights.{entry-bytes-length}
 
 -- a text has room where it has with what follows it
 pub first-room : (L M : List ℕ) {n : ℕ} → length (L ++ M) ≤ n → length L ≤ n
@@ -53,6 +55,19 @@ row-most number count answer tag memory room h e =
       hex-or-most 0x2D tag recordLength (omega arith) (omega arith),
       hex-or-most 0x2D (crcHigh memory) 2 (omega arith) (omega arith),
       hex-or-most 0x2D (crcHigh room) 2 (omega arith) (omega arith),
+    ))
+
+-- and so has that of a search, where no more UIDs are found than a list has entries
+pub search-row-most : (number requests : ℕ) (found list : List ℕ) → length found ≤ entriesMost → length (searchRowText number requests found list) ≤ rowMost
+unfolding searchRowText numbersText pairText
+search-row-most number requests found list h =
+    simp length-append
+    (omega (
+      arith,
+      decimal-length 19 number,
+      decimal-length 19 requests,
+      hex-or-most 0x2D (entryBytes found) (uidLength * entriesMost) (omega arith) (omega (arith, entry-bytes-length found)),
+      hex-or-most 0x2D (crcHigh (entryBytes list)) 2 (omega arith) (omega arith),
     ))
 
 -- ---- how much of the room is shown

@@ -11,8 +11,8 @@ use Rattle.packed.specs.Bytes.{recordLength}
 use Rattle.caselines.specs.declared.form.Number.{Number}
 use Rattle.caselines.specs.declared.form.Number.the-variants.{Of, NoNumber}
 use Rattle.caselines.specs.declared.form.Form.{Form}
-use Rattle.caselines.specs.declared.form.Form.the-variants.{Memory, Room, Save, Record, Load, Factory, Bytes, Event, NoForm}
-use Rattle.caselines.specs.Limits.{memoryMost, roomMost, imageMost, frameMost, uidLength}
+use Rattle.caselines.specs.declared.form.Form.the-variants.{Memory, Room, Save, Record, Load, Factory, Bytes, Event, Search, NoForm}
+use Rattle.caselines.specs.Limits.{memoryMost, roomMost, imageMost, frameMost, uidLength, entriesMost, tagsMost}
 
 -- a line that begins with a word and what follows it
 unfoldable pub begins : List ℕ → List ℕ → Bool
@@ -89,6 +89,21 @@ bytesForm memory s =
     if leb (length s) (spaceIn s) then NoForm else
     placedBy (numberIn memory (take (spaceIn s) s)) memory (spaceIn s) s
 
+-- ---- "SEARCH n hex": "a list of n entries (0 to 300), .. and tags given by their UIDs, 8 bytes each as they travel, 0 to 300 of them"
+
+unfoldable pub tagsForm : ℕ → ℕ → List ℕ → Form
+tagsForm n from s = if eqb (length s % (2 * uidLength)) 0 && isHex (2 * (uidLength * tagsMost)) s then Search n from else NoForm
+
+-- what follows the number of entries, and where it begins in the line
+abbrev pub tagsBy : Number → ℕ → List ℕ → Form
+tagsBy (Of n) k s = tagsForm n (k + 8) (drop (k + 1) s)
+tagsBy NoNumber k s = NoForm
+
+unfoldable pub searchForm : List ℕ → Form
+searchForm s =
+    if leb (length s) (spaceIn s) then NoForm else
+    tagsBy (numberIn entriesMost (take (spaceIn s) s)) (spaceIn s) s
+
 -- ---- a line, beside a memory of so many bytes; kinds of events are numbered as cabi does
 
 unfoldable pub hexForm : ℕ → List ℕ → Form
@@ -97,7 +112,8 @@ hexForm memory l =
     if begins l (bytesOfText "PUT ") then bytesForm memory (drop 4 l) else
     if begins l (bytesOfText "REQ ") then requestForm (drop 4 l) else
     if begins l (bytesOfText "LOAD ") then loadForm (drop 5 l) else
-    if begins l (bytesOfText "FACTORY ") then factoryForm (drop 8 l) else NoForm
+    if begins l (bytesOfText "FACTORY ") then factoryForm (drop 8 l) else
+    if begins l (bytesOfText "SEARCH ") then searchForm (drop 7 l) else NoForm
 
 unfoldable pub numberForm : ℕ → List ℕ → Form
 numberForm memory l =
@@ -121,4 +137,5 @@ Fits memory line (Load from) = line - from ≤ 2 * imageMost
 Fits memory line (Factory from) = line - from ≤ 2 * uidLength
 Fits memory line (Bytes at from) = (at ≤ memory) × (line - from ≤ 2 * (memory - at))
 Fits memory line (Event kind from) = line - from ≤ 2 * frameMost
+Fits memory line (Search n from) = (n ≤ entriesMost) × (line - from ≤ 2 * (uidLength * tagsMost))
 Fits memory line NoForm = Unit {0}

@@ -5,7 +5,7 @@ use mathlib.Core.Path.{_≡_}
 use mathlib.Core.List.{List}
 use lib.ListN.{length, replicate}
 use Rattle.caselines.specs.declared.form.Form.{Form}
-use Rattle.caselines.specs.declared.form.Form.the-variants.{Memory, Room, Save, Record, Load, Factory, Bytes, Event, NoForm}
+use Rattle.caselines.specs.declared.form.Form.the-variants.{Memory, Room, Save, Record, Load, Factory, Bytes, Event, Search, NoForm}
 use Rattle.caselines.specs.declared.lent.Lent.{Lent}
 use Rattle.caselines.specs.Limits.{memoryMost, roomMost}
 
@@ -19,6 +19,7 @@ lentBy (Load from) l = l
 lentBy (Factory from) l = l
 lentBy (Bytes at from) l = l
 lentBy (Event kind from) l = l
+lentBy (Search n from) l = l
 lentBy NoForm l = l
 
 -- the buffers after it: the one that a part is lent of anew is filled, all of it
@@ -31,6 +32,7 @@ memoryBy (Load from) m = m
 memoryBy (Factory from) m = m
 memoryBy (Bytes at from) m = m
 memoryBy (Event kind from) m = m
+memoryBy (Search n from) m = m
 memoryBy NoForm m = m
 
 abbrev pub roomBy : Form → List ℕ → List ℕ
@@ -42,6 +44,7 @@ roomBy (Load from) x = x
 roomBy (Factory from) x = x
 roomBy (Bytes at from) x = x
 roomBy (Event kind from) x = x
+roomBy (Search n from) x = x
 roomBy NoForm x = x
 
 -- what a line lends: how much, and every byte of the buffers

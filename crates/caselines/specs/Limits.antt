@@ -23,6 +23,14 @@ frameMost = 1100
 abbrev pub uidLength : ℕ
 uidLength = 8
 
+-- "a list of n entries (0 to 300)"
+abbrev pub entriesMost : ℕ
+entriesMost = 300
+
+-- ".. 8 bytes each as they travel, 0 to 300 of them"
+abbrev pub tagsMost : ℕ
+tagsMost = 300
+
 -- the longest line that has a form, `PUT 0 ` and a whole memory in hex, and one byte more
 abbrev pub lineMost : ℕ
 lineMost = 6 + 2 * memoryMost + 1

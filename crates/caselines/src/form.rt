@@ -1,16 +1,18 @@
 // What a line asks for.
+use super::limits::ENTRIES;
 use super::limits::FRAME;
 use super::limits::IMAGE;
 use super::limits::MEMORY;
 use super::limits::ROOM;
 use super::limits::UID;
+use super::limits::UIDS;
 use packed::RECORD;
 ghost use mathlib.Core.Path.{_≡_};
 ghost use Prim.Native.Nat.{_≤_};
 ghost use lib.ListN.{drop};
 ghost use Rattle.caselines.specs.Limits.{memoryMost, roomMost, imageMost};
 ghost use Rattle.caselines.specs.Form.{begins, numberFrom, numberIn, memoryOf, roomOf, saveOf, isHex, recordForm, requestForm, loadForm};
-ghost use Rattle.caselines.specs.Form.{factoryForm, spaceIn, placedForm, bytesForm, hexForm, numberForm, formOf};
+ghost use Rattle.caselines.specs.Form.{factoryForm, spaceIn, placedForm, bytesForm, tagsForm, searchForm, hexForm, numberForm, formOf};
 
 // The kinds of an event, as cabi numbers them.
 const ON: u32 = 0;
@@ -30,6 +32,8 @@ const IMAGE_DIGITS: usize = 2 * IMAGE;
 
 const UID_DIGITS: usize = 2 * UID;
 
+const UIDS_DIGITS: usize = 2 * UIDS;
+
 pub enum Number {
     Of(usize),
     NoNumber,
@@ -45,6 +49,7 @@ pub enum Form {
     Factory(usize),
     Bytes { at: usize, from: usize },
     Event { kind: u32, from: usize },
+    Search { entries: usize, from: usize },
     NoForm,
 }
 
@@ -215,6 +220,29 @@ fn bytes_form(s: &[u8], memory: usize) -> Form
     }
 }
 
+fn tags_form(s: &[u8], entries: usize, from: usize) -> Form
+    ensures { λ r. ⌜ r ≡ tagsForm entries from (now (s .entry)) ⌝ }
+{
+    if (s.len() % UID_DIGITS == 0) & is_hex(s, UIDS_DIGITS) {
+        return Form::Search { entries, from };
+    }
+    Form::NoForm
+}
+
+fn search_form(s: &[u8]) -> Form
+    ensures { λ r. ⌜ r ≡ searchForm (now (s .entry)) ⌝ }
+{
+    let k = space_in(s);
+    if s.len() <= k {
+        return Form::NoForm;
+    }
+    let number = number_in(&s[..k], ENTRIES);
+    match number {
+        Number::Of(n) => tags_form(after(s, k + 1), n, k + 8),
+        Number::NoNumber => Form::NoForm,
+    }
+}
+
 fn hex_form(line: &[u8], memory: usize) -> Form
     requires { ⌜ memory ≤ memoryMost ⌝ }
     ensures { λ r. ⌜ r ≡ hexForm memory (now (line .entry)) ⌝ }
@@ -233,6 +261,9 @@ fn hex_form(line: &[u8], memory: usize) -> Form
     }
     if begins_with(line, b"FACTORY ") {
         return factory_form(after(line, 8));
+    }
+    if begins_with(line, b"SEARCH ") {
+        return search_form(after(line, 7));
     }
     Form::NoForm
 }

@@ -27,6 +27,10 @@ pub fn lend(form: Form, lent: Lent, memory: &mut [u8], room: &mut [u8]) -> Lent
         Form::Factory(_) => lent,
         Form::Bytes { at: _, from: _ } => lent,
         Form::Event { kind: _, from: _ } => lent,
+        Form::Search {
+            entries: _,
+            from: _,
+        } => lent,
         Form::NoForm => lent,
     }
 }

@@ -16,6 +16,17 @@ pub const FRAME: usize = 1100;
 // "8 bytes, a UID as it travels"
 pub const UID: usize = 8;
 
+// "a list of n entries (0 to 300)"
+pub const ENTRIES: usize = 300;
+
+// ".. 8 bytes each as they travel, 0 to 300 of them"
+pub const TAGS: usize = 300;
+
+// The bytes of such a list, and of such UIDs.
+pub const LIST: usize = UID * ENTRIES;
+
+pub const UIDS: usize = UID * TAGS;
+
 // The longest line that has a form, `PUT 0 ` and a whole memory in hex, and one byte more, by which a longer line is told.
 pub const LINE: usize = 6 + 2 * MEMORY + 1;
 

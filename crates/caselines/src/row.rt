@@ -1,10 +1,15 @@
-// The answer line of a call: "`number length answer record memory room`".
+// The answer line of a call: "`number length answer record memory room`", and of a search: "`number requests list room`".
+use super::entries::put_entry_bytes;
+use super::limits::LIST;
 use packed::RECORD;
 ghost use Prim.Native.Nat.{_≤_, min};
 ghost use mathlib.Core.Path.{_≡_};
 ghost use lib.ListN.{length};
 ghost use Rattle.put.specs.Put.{Put};
 ghost use Rattle.text.specs.Text.{decimalOf};
+ghost use Rattle.caselines.specs.Limits.{entriesMost};
+ghost use Rattle.caselines.specs.Entries.{entryBytes};
+ghost use Rattle.caselines.specs.Row.{listText, searchRowText, searchText, SuitsLists, SuitsSearch};
 ghost use Rattle.caselines.specs.Row.{shown, field, crcHigh, numbersText, pairText, sumsText, restText, rowText, callText, Suits};
 
 const SPACE: u8 = 0x20;
@@ -116,4 +121,59 @@ pub fn put_call(
     let count = result % 0x1_0000_0000;
     let n = least(count as usize, room.len());
     put_row(number, count, &room[..n], tag, memory, room, out)
+}
+
+// "the CRC of all bytes of the list, each entry lowest byte first"
+fn crc_entries(list: &[u64]) -> [u8; 2]
+    requires { ⌜ length (now list) ≤ entriesMost ⌝ }
+    ensures { λ r. ⌜ r ≡ crcHigh (entryBytes (now (list .entry))) ⌝ }
+{
+    let mut bytes = [0u8; LIST];
+    let n = put_entry_bytes(list, &mut bytes);
+    crc_high(&bytes[..n])
+}
+
+// "the UIDs found as they travel, `-` for none", and a space.
+fn put_found(found: &[u64], out: &mut [u8]) -> usize
+    requires { ⌜ length (now found) ≤ entriesMost ⌝ }
+    requires { ⌜ length (field 0x20 (shown (entryBytes (now found)))) ≤ length (now out) ⌝ }
+    ensures { λ r. ⌜ Put (field 0x20 (shown (entryBytes (now (found .entry))))) (now (out .entry)) (now (out .exit)) r ⌝ }
+{
+    let mut bytes = [0u8; LIST];
+    let n = put_entry_bytes(found, &mut bytes);
+    put_field(&bytes[..n], SPACE, out)
+}
+
+fn put_list(found: &[u64], list: &[u64], out: &mut [u8]) -> usize
+    requires { ⌜ SuitsLists (length (now found)) (length (now list)) ⌝ }
+    requires { ⌜ length (listText (now found) (now list)) ≤ length (now out) ⌝ }
+    ensures { λ r. ⌜ Put (listText (now (found .entry)) (now (list .entry))) (now (out .entry)) (now (out .exit)) r ⌝ }
+{
+    let at = put_found(found, out);
+    let sum = crc_entries(list);
+    at + put_field(&sum, NEWLINE, &mut out[at..])
+}
+
+// The whole line of a search.
+fn put_search_row(number: u64, requests: u64, found: &[u64], list: &[u64], out: &mut [u8]) -> usize
+    requires { ⌜ SuitsLists (length (now found)) (length (now list)) ⌝ }
+    requires { ⌜ length (searchRowText number requests (now found) (now list)) ≤ length (now out) ⌝ }
+    ensures { λ r. ⌜ Put (searchRowText number requests (now (found .entry)) (now (list .entry))) (now (out .entry)) (now (out .exit)) r ⌝ }
+{
+    let at = put_numbers(number, requests, out);
+    at + put_list(found, list, &mut out[at..])
+}
+
+// The line of a search over so many tags that gave a result and a list. Only a refused search has more tags than entries.
+pub fn put_search(result: u64, tags: usize, list: &[u64], out: &mut [u8]) -> usize
+    requires { ⌜ SuitsSearch (length (now list)) (length (now out)) ⌝ }
+    ensures { λ r. ⌜ Put (searchText result tags (now (list .entry))) (now (out .entry)) (now (out .exit)) r ⌝ }
+{
+    let number = result / 0x1_0000_0000;
+    let requests = result % 0x1_0000_0000;
+    if number != 0 {
+        return put_search_row(number, requests, &list[..0], list, out);
+    }
+    let n = least(tags, list.len());
+    put_search_row(number, requests, &list[..n], list, out)
 }

@@ -13,7 +13,7 @@ use Rattle.rights.specs.Registers.{registerAt, isRegister, allows, permits, reg
 use Rattle.tag.specs.Table.{entryOf, firstOf, moreOf, headOf, limitOf, lengthOf}
 use Rattle.tag.specs.Frame.{check2, check3, check4, custom, check5, afterCode, fieldsAt, otherUid, check6, selectOfAnother, check7, check8, check9, check10, heardOf}
 use Rattle.tag.specs.Work.{listing, applyToTag, applyToMemory, perform}
-use Rattle.tag.specs.Inventory.{maskTooLong, wrongLength, afiMatches, afiFits, maskFits, slotOf, inSlot, unheard, inventoryOf, nextSlot}
+use Rattle.tag.specs.Inventory.{maskTooLong, wrongLength, afiMatches, afiFits, fits, maskFits, slotOf, inSlot, unheard, inventoryOf, nextSlot}
 use Rattle.tag.specs.Blocks.{readVerdict, statuses, statusVerdict, writeVerdict, blockUnits, lockVerdict}
 use Rattle.tag.specs.Commands.{actOf, requestOf}
 use Rattle.tag.specs.Step.{frameOf, workOf, step}
@@ -41,7 +41,7 @@ samples = (
     ∷ []
 
 pub samples-hold : map (λ (v : List ℕ × List ℕ). outputOf (v .0)) samples ≡ map (λ (v : List ℕ × List ℕ). v .1) samples
-unfolding samples numberAt bytesOf crcBit crcBits crcByte crcFrom crcOf crcBytes sessionOf isOpen presentOf changeVerdict areaOf registerOf serves mayRead mayWrite readableAt writableAt lockedAt barredAt statusAt crossesAt anyBarred registerAt isRegister allows permits registerVerdict withRegister entryOf firstOf moreOf headOf limitOf lengthOf check2 check3 check4 custom check5 afterCode fieldsAt otherUid check6 selectOfAnother check7 check8 check9 check10 heardOf listing applyToTag applyToMemory perform maskTooLong wrongLength afiMatches afiFits maskFits slotOf inSlot unheard inventoryOf nextSlot readVerdict statuses statusVerdict writeVerdict blockUnits lockVerdict actOf requestOf frameOf workOf step factory bytesOfText same hexOf hexOr allDigits valueOf bytesIn decimal linesFrom isRequest formOf atFirst nextNumber textOf outputFrom outputOf
+unfolding samples numberAt bytesOf crcBit crcBits crcByte crcFrom crcOf crcBytes sessionOf isOpen presentOf changeVerdict areaOf registerOf serves mayRead mayWrite readableAt writableAt lockedAt barredAt statusAt crossesAt anyBarred registerAt isRegister allows permits registerVerdict withRegister entryOf firstOf moreOf headOf limitOf lengthOf check2 check3 check4 custom check5 afterCode fieldsAt otherUid check6 selectOfAnother check7 check8 check9 check10 heardOf listing applyToTag applyToMemory perform maskTooLong wrongLength afiMatches afiFits fits maskFits slotOf inSlot unheard inventoryOf nextSlot readVerdict statuses statusVerdict writeVerdict blockUnits lockVerdict actOf requestOf frameOf workOf step factory bytesOfText same hexOf hexOr allDigits valueOf bytesIn decimal linesFrom isRequest formOf atFirst nextNumber textOf outputFrom outputOf
 samples-hold = refl
 
 -- "line number from 1 in decimal": the line after a number, as it is written; the greatest number of 64 bits stays

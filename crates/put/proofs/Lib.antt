@@ -1,5 +1,6 @@
 pub mod Proves
 pub mod If
+pub mod Bits
 pub mod Lists
 pub mod Written
 pub mod Numbers

@@ -55,7 +55,7 @@ pub enum Kind {
     Request,
 }
 
-// "Host calls and their numbers"
+// "Host calls and their numbers", and those of 02
 pub enum Refusal {
     None,
     Memory,
@@ -63,6 +63,9 @@ pub enum Refusal {
     Record,
     Image,
     Header,
+    Tags,
+    Equal,
+    Small,
 }
 
 // What a host call gives: refusal, length of the answer or of the saved image, and the record

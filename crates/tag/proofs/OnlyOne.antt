@@ -1,5 +1,5 @@
 -- No choice: at each entry whatever, exactly one outcome meets the promise of a host call. "It is shown that it leaves no choice between
--- answers". An outcome is what the call returns and every lent buffer as it is left. The promises name 01's number of a refusal: no two
+-- answers". An outcome is what the call returns and every lent buffer as it is left. The promises name the number of a refusal: no two
 -- refusals have the same.
 -- Assumes nothing.
 use Prim.Native.Nat.{ℕ}
@@ -29,13 +29,16 @@ pub record ExactlyOne {O : Type 0} (Meets : O → Type 0) : Type 0 where
 -- ---- what is returned
 
 -- the refusal of a number
-refusalOf : ℕ → Refusal
+unfoldable pub refusalOf : ℕ → Refusal
 refusalOf n =
     if eqb n 1 then refusal.Memory else
     if eqb n 2 then refusal.Room else
     if eqb n 3 then refusal.Record else
     if eqb n 4 then refusal.Image else
-    if eqb n 5 then refusal.Header else refusal.None
+    if eqb n 5 then refusal.Header else
+    if eqb n 6 then refusal.Tags else
+    if eqb n 7 then refusal.Equal else
+    if eqb n 18 then refusal.Small else refusal.None
 
 refusal-again : (r : Refusal) → refusalOf (numberOf r) ≡ r
 unfolding refusalOf
@@ -45,6 +48,9 @@ refusal-again refusal.Room = refl
 refusal-again refusal.Record = refl
 refusal-again refusal.Image = refl
 refusal-again refusal.Header = refl
+refusal-again refusal.Tags = refl
+refusal-again refusal.Equal = refl
+refusal-again refusal.Small = refl
 
 -- "A refusal returns its number": refusals of one number are one
 pub one-refusal : {r s : Refusal} {n : ℕ} → numberOf r ≡ n → numberOf s ≡ n → r ≡ s
@@ -55,11 +61,11 @@ one-outcome : {r s : Outcome} {n l : ℕ} {t : Tag} → numberOf (r .refusal) �
     → s .tag ≡ t → r ≡ s
 one-outcome {r} {s} p q k l t u i = record { refusal = one-refusal {r = r .refusal} {s = s .refusal} p q i; length = one-result k l i; tag = one-result t u i }
 
--- a number of 01, or 0: some refusal has it
-abbrev Numbered : ℕ → Type 0
+-- a number of 01 or 02, or 0: some refusal has it
+abbrev pub Numbered : ℕ → Type 0
 Numbered n = numberOf (refusalOf n) ≡ n
 
-numbered : (a b c : Bool) (p q r : ℕ) → Numbered p → Numbered q → Numbered r → Numbered (if a then p else if b then q else if c then r else 0)
+pub numbered : (a b c : Bool) (p q r : ℕ) → Numbered p → Numbered q → Numbered r → Numbered (if a then p else if b then q else if c then r else 0)
 unfolding refusalOf
 numbered true b c p q r x y z = x
 numbered false true c p q r x y z = y

@@ -17,7 +17,7 @@ either : {A : Type 0} (f : A → ℕ) (a : Bool) (p q : A) → f (if a then p el
 either f true p q = refl
 either f false p q = refl
 
-chosen : {A : Type 0} (f : A → ℕ) (a b c : Bool) (p q r s : A)
+pub chosen : {A : Type 0} (f : A → ℕ) (a b c : Bool) (p q r s : A)
     → f (if a then p else if b then q else if c then r else s) ≡ (if a then f p else if b then f q else if c then f r else f s)
 chosen f a b c p q r s = rw (either f a p (if b then q else if c then r else s), either f b q (if c then r else s), either f c r s)
 

@@ -23,7 +23,7 @@ use Rattle.tag.specs.Rules.{blocksOf, offRule, roundRule, heldRule, toge
 use Rattle.tag.specs.Table.{entryOf, firstOf, moreOf, headOf, limitOf, lengthOf}
 use Rattle.tag.specs.Frame.{check2, check3, check4, custom, check5, afterCode, fieldsAt, otherUid, check6, selectOfAnother, check7, check8, check9, check10, heardOf}
 use Rattle.tag.specs.Work.{listing, applyToTag, applyToMemory, perform}
-use Rattle.tag.specs.Inventory.{maskTooLong, wrongLength, afiMatches, afiFits, maskFits, slotOf, inSlot, unheard, inventoryOf, nextSlot}
+use Rattle.tag.specs.Inventory.{maskTooLong, wrongLength, afiMatches, afiFits, fits, maskFits, slotOf, inSlot, unheard, inventoryOf, nextSlot}
 use Rattle.tag.specs.Blocks.{readVerdict, statuses, statusVerdict, writeVerdict, blockUnits, lockVerdict}
 use Rattle.tag.specs.Commands.{actOf, requestOf}
 use Rattle.tag.specs.Step.{Event, fieldOn, fieldOff, endOfFrame, request, frameOf, workOf, step, run}
@@ -352,7 +352,7 @@ pub record Computed : Type 0 where
   pub configured′ : Plays 1 (secondIn None) secondMemory configuring false (success ∷ success ∷ secondEight ∷ [])
 
 pub computed : Computed
-unfolding first second withField firstIn secondIn firstMemory secondMemory tagOf memoryOf lowest events answers unpowered enough calls told numbers eventGiven served unopenedCalls third fourth thirdMemory fourthMemory largeOf largeMemoryOf largeLowest atTheEnd answersAtTheEnd reading writing opening openingOther configuring firstEight secondEight success wrong unreadable sound offRule roundRule heldRule togetherRule possible presented unopened bytes ours numberAt bytesOf crcBit crcBits crcByte crcFrom crcOf crcBytes sessionOf isOpen presentOf changeVerdict areaOf registerOf serves mayRead mayWrite readableAt writableAt lockedAt barredAt statusAt crossesAt anyBarred registerAt isRegister allows permits registerVerdict withRegister entryOf firstOf moreOf headOf limitOf lengthOf check2 check3 check4 custom check5 afterCode fieldsAt otherUid check6 selectOfAnother check7 check8 check9 check10 heardOf listing applyToTag applyToMemory perform maskTooLong wrongLength afiMatches afiFits maskFits slotOf inSlot unheard inventoryOf nextSlot readVerdict statuses statusVerdict writeVerdict blockUnits lockVerdict actOf requestOf frameOf workOf step run factory
+unfolding first second withField firstIn secondIn firstMemory secondMemory tagOf memoryOf lowest events answers unpowered enough calls told numbers eventGiven served unopenedCalls third fourth thirdMemory fourthMemory largeOf largeMemoryOf largeLowest atTheEnd answersAtTheEnd reading writing opening openingOther configuring firstEight secondEight success wrong unreadable sound offRule roundRule heldRule togetherRule possible presented unopened bytes ours numberAt bytesOf crcBit crcBits crcByte crcFrom crcOf crcBytes sessionOf isOpen presentOf changeVerdict areaOf registerOf serves mayRead mayWrite readableAt writableAt lockedAt barredAt statusAt crossesAt anyBarred registerAt isRegister allows permits registerVerdict withRegister entryOf firstOf moreOf headOf limitOf lengthOf check2 check3 check4 custom check5 afterCode fieldsAt otherUid check6 selectOfAnother check7 check8 check9 check10 heardOf listing applyToTag applyToMemory perform maskTooLong wrongLength afiMatches afiFits fits maskFits slotOf inSlot unheard inventoryOf nextSlot readVerdict statuses statusVerdict writeVerdict blockUnits lockVerdict actOf requestOf frameOf workOf step run factory
 computed =
     record {
       small = record { sound = refl; met = refl; answers = refl };

@@ -15,7 +15,7 @@ use Rattle.tag.specs.Rules.{blocksOf, lastEnd, sound}
 use Rattle.tag.specs.Step.{Event, step}
 use Rattle.tag.specs.Image.{headerLength, tagIn, headerRule, imageOf, factory}
 
--- 01's number of each refusal that the code names, 0 for none; what a call gives is said by these numbers
+-- the number of each refusal that the code names, 1 to 5 in 01 and the others in 02, 0 for none; what a call gives is said by these numbers
 abbrev pub numberOf : Refusal → ℕ
 numberOf refusal.None = 0
 numberOf refusal.Memory = 1
@@ -23,6 +23,9 @@ numberOf refusal.Room = 2
 numberOf refusal.Record = 3
 numberOf refusal.Image = 4
 numberOf refusal.Header = 5
+numberOf refusal.Tags = 6
+numberOf refusal.Equal = 7
+numberOf refusal.Small = 18
 
 -- 1: "user memory lent is not 2,048 or 8,192 bytes"
 abbrev pub isMemory : List ℕ → Bool

@@ -48,14 +48,24 @@ afiMatches asked stored = eqb asked 0x00 || eqb asked stored
 unfoldable pub afiFits : Front → List ℕ → Bool
 afiFits t f = not (afiFlag f) || afiMatches (getD (inventoryFields f) 0 0) (t .afi)
 
--- "The lowest mask-length bits of the UID must match", "spare bits not compared"
+-- the lowest bits of a number, so many; and the four bits after them
+abbrev pub lowBits : ℕ → ℕ → ℕ
+lowBits n bits = n % 2 ^ bits
+
+abbrev pub nextFour : ℕ → ℕ → ℕ
+nextFour n bits = n / 2 ^ bits % 16
+
+-- "The lowest mask-length bits of the UID must match": a mask of so many bits, and a UID
+unfoldable pub fits : ℕ → ℕ → ℕ → Bool
+fits mask bits u = eqb (lowBits u bits) mask
+
+-- ".. spare bits not compared"
 unfoldable pub maskFits : Front → List ℕ → Bool
-maskFits t f =
-    eqb (t .uid % 2 ^ maskLength f) (numberAt 8 (inventoryFields f) (maskAt f + 1) % 2 ^ maskLength f)
+maskFits t f = fits (lowBits (numberAt 8 (inventoryFields f) (maskAt f + 1)) (maskLength f)) (maskLength f) (t .uid)
 
 -- "the next four UID bits are the slot", after so many bits of mask
 unfoldable pub slotOf : Front → ℕ → ℕ
-slotOf t mask = t .uid / 2 ^ mask % 16
+slotOf t bits = nextFour (t .uid) bits
 
 -- "Answer: 00h, DSFID, UID, CRC."
 abbrev pub inventoryAnswer : Front → Answer

@@ -67,6 +67,14 @@ event-requires c κs =
     let s = f .before .before .before .before .before .before in
     (digits-most (s .args .line .now) _ (c .before .before .before .before .after5 .ensures) (rw (f .form6 .given .1) at (s .pre .0)), s .pre .1)
 
+-- `SEARCH n hex`: the list is as long as its range says, and the digits are those of the most UIDs at most
+search-requires : tie.Need-search-requires
+search-requires c κs =
+    let f = c .before .before .before in
+    let s = f .before .before .before .before .before .before in
+    let h = rw (f .form7 .given .1) at (s .pre .0) in
+    ((h .0, digits-most (s .args .line .now) _ (c .before .after6 .ensures) (h .1)), s .pre .1 .of-out)
+
 pub act-spec : {M : Type 1} → statement M
 act-spec =
     tie.close
@@ -98,8 +106,13 @@ act-spec =
     (λ c κs. search needs)
     event-requires
     (λ c. search needs)
+    (λ c κs. search needs)
+    search-requires
+    (λ c. search needs)
     (λ c. search needs)
     (λ c κs. search needs)
+    (λ c. search needs)
+    (λ c. search needs)
     (λ c. search needs)
     (λ c. search needs)
     (λ c. search needs)

@@ -71,11 +71,31 @@ returns-5 c =
     ∙ past _ _ (t4 .before .begins-with4 .ensures) (t4 .if4 .left)
     ∙ here _ _ (t5 .before .begins-with5 .ensures) (t5 .if5 .taken))
 
--- no such form
+-- `SEARCH n hex`
 returns-6 : tie.Need-returns-6
 unfolding bytesOfText hexForm
 returns-6 c =
-    let t5 = c in
+    let t6 = c .before .before in
+    let t5 = t6 .before .before .before in
+    let t4 = t5 .before .before .before in
+    let t3 = t4 .before .before .before in
+    let t2 = t3 .before .before .before in
+    let t1 = t2 .before .before .before in
+    (rw (c .before .after6 .ensures) at (c .search-form .ensures)) ∙
+    sym
+    (past _ _ (t1 .before .begins-with .ensures) (t1 .if1 .left)
+    ∙ past _ _ (t2 .before .begins-with2 .ensures) (t2 .if2 .left)
+    ∙ past _ _ (t3 .before .begins-with3 .ensures) (t3 .if3 .left)
+    ∙ past _ _ (t4 .before .begins-with4 .ensures) (t4 .if4 .left)
+    ∙ past _ _ (t5 .before .begins-with5 .ensures) (t5 .if5 .left)
+    ∙ here _ _ (t6 .before .begins-with6 .ensures) (t6 .if6 .taken))
+
+-- no such form
+returns-7 : tie.Need-returns-7
+unfolding bytesOfText hexForm
+returns-7 c =
+    let t6 = c in
+    let t5 = t6 .before .before .before in
     let t4 = t5 .before .before .before in
     let t3 = t4 .before .before .before in
     let t2 = t3 .before .before .before in
@@ -85,7 +105,8 @@ returns-6 c =
     ∙ past _ _ (t2 .before .begins-with2 .ensures) (t2 .if2 .left)
     ∙ past _ _ (t3 .before .begins-with3 .ensures) (t3 .if3 .left)
     ∙ past _ _ (t4 .before .begins-with4 .ensures) (t4 .if4 .left)
-    ∙ past _ _ (t5 .before .begins-with5 .ensures) (t5 .if5 .left))
+    ∙ past _ _ (t5 .before .begins-with5 .ensures) (t5 .if5 .left)
+    ∙ past _ _ (t6 .before .begins-with6 .ensures) (t6 .if6 .left))
 
 pub hex-form-spec : {M : Type 1} → statement M
 hex-form-spec =
@@ -116,4 +137,9 @@ hex-form-spec =
     (λ c κs. search needs)
     (λ c κs. search needs)
     returns-5
-    returns-6)
+    (λ c. search needs)
+    (λ c κs. search needs)
+    (λ c κs. search needs)
+    (λ c κs. search needs)
+    returns-6
+    returns-7)

@@ -1,7 +1,7 @@
 -- `frame::inventory::high_bits` meets its contract.
 -- Assumes nothing.
 use mathlib.Core.Path.{sym}
-use Rattle.frame.proofs.Bits.{none-high}
+use Rattle.put.proofs.Bits.{none-high}
 use Rattle.put.proofs.Proves.{proves}
 use Rattle.frame.proofs.inventory.high_bits.Statement.{statement}
 use Rattle.frame.proofs.inventory.high_bits.Tie as tie

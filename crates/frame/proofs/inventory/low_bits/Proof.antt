@@ -1,7 +1,7 @@
 -- `frame::inventory::low_bits` meets its contract.
 -- Assumes nothing.
 use mathlib.Core.Path.{sym}
-use Rattle.frame.proofs.Bits.{one-shifted, shifted-pos, all-low}
+use Rattle.put.proofs.Bits.{one-shifted, shifted-pos, all-low}
 use Rattle.put.proofs.Proves.{proves}
 use Rattle.frame.proofs.inventory.low_bits.Statement.{statement}
 use Rattle.frame.proofs.inventory.low_bits.Tie as tie

@@ -1,14 +1,14 @@
 -- `frame::inventory::mask_fits` meets its contract.
 -- Assumes nothing.
 use Rattle.frame.proofs.Bytes.{mask-place}
-use Rattle.tag.specs.Inventory.{maskFits}
+use Rattle.tag.specs.Inventory.{fits, maskFits}
 use Rattle.put.proofs.Proves.{proves}
 use native.Mathlib.Omega.{arith}
 use Rattle.frame.proofs.inventory.mask_fits.Statement.{statement}
 use Rattle.frame.proofs.inventory.mask_fits.Tie as tie
 
 pub mask-fits-spec : {M : Type 1} → statement M
-unfolding maskFits
+unfolding fits maskFits
 mask-fits-spec =
     tie.close
     (tie.spec

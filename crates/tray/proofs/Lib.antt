@@ -1,0 +1,16 @@
+pub mod Slots
+pub mod Sent
+pub mod Weigh
+pub mod Count
+pub mod Order
+pub mod Theorems
+pub mod AnyOrder
+pub mod OnlyOne
+pub mod Places
+pub mod Groups
+pub mod Asking
+pub mod Given
+pub mod Examples
+pub mod Shared
+pub mod Frames
+pub mod Tags
