@@ -25,7 +25,7 @@ use Rattle.tag.specs.Work.{work, silence, says}
 use Rattle.tag.specs.Inventory.{fits, inventoryFields, maskLength, maskTooLong, wrongLength, afiFits, maskFits, unheard, inventoryOf, inSlot}
 use Rattle.tag.specs.Step.{sealed}
 use Rattle.tray.specs.Tray.{Request}
-use Rattle.tray.specs.Tags.{askFrame, Proper}
+use Rattle.tray.specs.Tags.{askBytes, askFrame, Proper}
 use Rattle.tray.proofs.Slots.{in-bits}
 
 -- ---- a sealed frame
@@ -49,20 +49,17 @@ sealed-passes s h =
 -- ---- the search's frame
 
 module _ (bits : ℕ) (bs : List ℕ) where
-  abbrev start : List ℕ
-  start = 0x06 ∷ 0x01 ∷ bits ∷ bs
-
-  told-start : (t : Front) → heardOf t (sealed start) ≡ told.Inventory
+  told-start : (t : Front) → heardOf t (sealed (askBytes bits bs)) ≡ told.Inventory
   unfolding heardOf check3 check4
-  told-start t = rw (sealed-passes start (omega arith))
+  told-start t = rw (sealed-passes (askBytes bits bs) (omega arith))
 
-  its-fields : inventoryFields (sealed start) ≡ bits ∷ bs
+  its-fields : inventoryFields (sealed (askBytes bits bs)) ≡ bits ∷ bs
   its-fields =
       let q : suc (suc (suc (length bs))) - 2 ≡ suc (length bs) = omega arith in
-      rw (sealed-end start, q) (take-at (bits ∷ bs) (crcBytes start) (suc (length bs)) refl)
+      rw (sealed-end (askBytes bits bs), q) (take-at (bits ∷ bs) (crcBytes (askBytes bits bs)) (suc (length bs)) refl)
 
-  its-length : endOf (sealed start) - 2 ≡ 1 + length bs
-  its-length = rw (sealed-end start) (omega arith)
+  its-length : endOf (sealed (askBytes bits bs)) - 2 ≡ 1 + length bs
+  its-length = rw (sealed-end (askBytes bits bs)) (omega arith)
 
 -- it is heard as an Inventory
 pub told-inventory : (q : Request) (t : Front) → heardOf t (askFrame q) ≡ told.Inventory

@@ -15,9 +15,13 @@ use Rattle.tray.specs.Tray.{Request, speaksIn, requestsSent}
 
 -- ---- frames and events
 
--- "The search asks with 16 slots": flags 06h (Inventory_flag and the high data rate; no AFI, 16 slots), code 01h, mask length, mask, CRC
+-- "The search asks with 16 slots": flags 06h (Inventory_flag and the high data rate; no AFI, 16 slots), code 01h, mask length, mask
+abbrev pub askBytes : ℕ → List ℕ → List ℕ
+askBytes bits mask = 0x06 ∷ 0x01 ∷ bits ∷ mask
+
+-- .. and CRC
 abbrev pub askFrame : Request → List ℕ
-askFrame q = sealed (0x06 ∷ 0x01 ∷ q .bits ∷ bytesOf ((q .bits + 7) / 8) (q .mask))
+askFrame q = sealed (askBytes (q .bits) (bytesOf ((q .bits + 7) / 8) (q .mask)))
 
 -- the frames of some requests, and of a search, in the order sent
 unfoldable pub framesOf : List Request → List (List ℕ)
