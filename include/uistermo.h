@@ -55,19 +55,31 @@ extern "C" {
 #define UISTERMO_END_OF_FRAME 2 /* an end of frame: the next slot of a round, or the call for a held answer */
 #define UISTERMO_REQUEST 3      /* a frame */
 
-/* Refusals. */
-#define UISTERMO_NONE 0           /* not refused */
-#define UISTERMO_REFUSED_MEMORY 1 /* user memory lent is not 2,048 or 8,192 bytes, or does not fit the image's length */
-#define UISTERMO_REFUSED_ROOM 2   /* answer room is below 10,243 bytes */
-#define UISTERMO_REFUSED_RECORD 3 /* tag record breaks a record rule, or the bytes are no record of the memory's size */
-#define UISTERMO_REFUSED_IMAGE 4  /* image is not 2,112 or 8,256 bytes */
-#define UISTERMO_REFUSED_HEADER 5 /* image header breaks a rule, or byte 0 does not fit the image's length */
-#define UISTERMO_REFUSED_TAGS 6   /* more than 256 tags */
-#define UISTERMO_REFUSED_EQUAL 7  /* two UIDs are equal */
-#define UISTERMO_REFUSED_SMALL 18 /* the list's room is too small for all */
+/* Refusals. Document 02's 5a to 5e, of an image's header, are 5Ah to 5Eh; each comes with "the lowest offending byte's place". */
+#define UISTERMO_NONE 0                  /* not refused */
+#define UISTERMO_REFUSED_MEMORY 1        /* user memory lent is not 2,048 or 8,192 bytes, or does not fit the image's length */
+#define UISTERMO_REFUSED_ROOM 2          /* answer room is below 10,243 bytes */
+#define UISTERMO_REFUSED_RECORD 3        /* tag record breaks a record rule, or the bytes are no record of the memory's size */
+#define UISTERMO_REFUSED_IMAGE 4         /* image is not 2,112 or 8,256 bytes */
+#define UISTERMO_REFUSED_MARK 0x5A       /* size mark: byte 0 does not fit the image's length */
+#define UISTERMO_REFUSED_LOCK 0x5B       /* lock byte: a bit of byte 11 that locks nothing, 5 to 7, is not 0 */
+#define UISTERMO_REFUSED_PROTECTION 0x5C /* protection byte: an RFAiSS, byte 12, 14, 16 or 18, is above 0Fh */
+#define UISTERMO_REFUSED_END 0x5D        /* area end: an ENDAi, byte 13, 15 or 17, is above E; or, the end before it being below E, */
+                                         /* not above that; or, the end before it being E, not E */
+#define UISTERMO_REFUSED_RESERVED 0x5E   /* reserved byte: one of the bytes 51 to 63 is not 0 */
+#define UISTERMO_REFUSED_TAGS 6          /* more than 256 tags */
+#define UISTERMO_REFUSED_EQUAL 7         /* two UIDs are equal */
+#define UISTERMO_REFUSED_SMALL 18        /* the list's room is too small for all */
 
-/* A result is refusal number * 2^32 + length. A call that refuses has length 0 and leaves every byte of record and buffers as it was. */
-static inline uint32_t uistermo_refusal(uint64_t result) { return (uint32_t)(result >> 32); }
+/*
+ * A result is place * 2^48 + refusal number * 2^32 + length. A call that refuses has length 0 and leaves every byte of record and buffers as it was.
+ * The place is that of a byte of the image, counted from 0. It comes with 5a to 5e, where it may be 0; with every other result it is 0, and means
+ * nothing.
+ * Earlier versions gave 5 alone for 5a to 5e, and no place; their uistermo_refusal took all upper bits. A host compiled with their header is to be
+ * compiled anew.
+ */
+static inline uint32_t uistermo_refusal(uint64_t result) { return (uint32_t)(result >> 32 & 0xFFFF); }
+static inline size_t uistermo_place(uint64_t result) { return (size_t)(result >> 48); }
 static inline size_t uistermo_length(uint64_t result) { return (size_t)(result & 0xFFFFFFFF); }
 
 /*
@@ -81,7 +93,8 @@ uint64_t uistermo_event(uint8_t record[UISTERMO_RECORD], uint8_t *memory, size_t
 
 /*
  * Loads an image: fills memory and makes the record, with the field off. The bytes that were in record do not matter. The length is 0.
- * Checks 4, 1, 5 in that order.
+ * Checks 4, 1, then 5a to 5e: of all bytes of the header that are wrong the lowest is named, by its letter and its place. Document 02: "An end
+ * above E is charged to its own byte, a wrong pair to the later byte."; E is 63 or 255, by the image's length.
  */
 uint64_t uistermo_load(uint8_t record[UISTERMO_RECORD], const uint8_t *image, size_t image_length, uint8_t *memory, size_t memory_length);
 

@@ -101,6 +101,12 @@ uint16_t plain_crc(const uint8_t *bytes, size_t n)
     return (uint16_t)~crc;
 }
 
+/* ---- refusals */
+
+static uint64_t refuse(uint64_t number) { return number << 32; }
+
+static uint64_t refuse_at(uint64_t number, uint64_t place) { return place << 48 | number << 32; }
+
 /* ---- the record */
 
 /* A header as an image and a record have it, for a tag whose greatest area end is `e`. */
@@ -117,6 +123,32 @@ static bool header_good(const uint8_t *h, uint8_t mark, uint8_t e)
         if (reg[i] < e ? reg[i + 2] <= reg[i] : reg[i + 2] != e)
             return false;
     return true;
+}
+
+/* The end of an area against E, and against the end before it. */
+static bool end_good(const uint8_t *h, size_t place, uint8_t e)
+{
+    uint8_t end = h[place], before = h[place - 2];
+    return end <= e && (place == 13 || (before < e ? end > before : end == e));
+}
+
+/* The result for a header that is not good: the lowest byte that is wrong. */
+static uint64_t header_fault(const uint8_t *h, uint8_t mark, uint8_t e)
+{
+    if (h[0] != mark)
+        return refuse_at(UISTERMO_REFUSED_MARK, 0);
+    if (h[11] > 0x1F)
+        return refuse_at(UISTERMO_REFUSED_LOCK, 11);
+    for (size_t i = 12; i < 19; i += 2) {
+        if (h[i] > 0x0F)
+            return refuse_at(UISTERMO_REFUSED_PROTECTION, i);
+        if (i < 18 && !end_good(h, i + 1, e))
+            return refuse_at(UISTERMO_REFUSED_END, i + 1);
+    }
+    size_t place = 51;
+    while (h[place] == 0)
+        place++;
+    return refuse_at(UISTERMO_REFUSED_RESERVED, place);
 }
 
 /* The eight bytes after the header: field, state, session, round, slot, mask length, held, code. */
@@ -623,8 +655,6 @@ static void switch_field(struct tag *t, bool on)
 
 /* ---- host calls */
 
-static uint64_t refuse(uint32_t number) { return (uint64_t)number << 32; }
-
 uint64_t plain_event(uint8_t record[UISTERMO_RECORD], uint8_t *memory, size_t memory_length, uint8_t *room, size_t room_length,
                      uint32_t kind, const uint8_t *frame, size_t frame_length)
 {
@@ -667,7 +697,7 @@ uint64_t plain_load(uint8_t record[UISTERMO_RECORD], const uint8_t *image, size_
     if (wrong)
         return refuse(wrong);
     if (!header_fits(image, memory_length))
-        return refuse(UISTERMO_REFUSED_HEADER);
+        return memory_length == UISTERMO_MEMORY_16K ? header_fault(image, UISTERMO_MARK_16K, 63) : header_fault(image, UISTERMO_MARK_64K, 255);
     memcpy(record, image, PLAIN_HEADER);
     memset(record + PLAIN_HEADER, 0, UISTERMO_RECORD - PLAIN_HEADER);
     memcpy(memory, image + PLAIN_HEADER, memory_length);

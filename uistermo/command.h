@@ -13,6 +13,11 @@ enum status {
     WRONG = 2,   /* a wrong word, a line that is no UID, or a file that cannot be read or written */
 };
 
+/* A number or a UID in digits. */
+struct figure {
+    char text[24];
+};
+
 /* A command. main.c has the table of them. */
 struct command {
     const char *name;
@@ -22,7 +27,7 @@ struct command {
     enum status (*run)(const struct command *self, char **words, int count); /* words: those after the name */
 };
 
-extern const struct command factory_command, show_command, run_command, tray_command;
+extern const struct command factory_command, show_command, header_command, run_command, tray_command;
 
 /* ---- on standard error; each gives the status that goes with it */
 
@@ -37,10 +42,16 @@ enum status unwritten(const char *path, const char *why);
 /* A call that the library refused, with the documents' number and its words, and what more there is to say. */
 enum status refused(const char *path, uint64_t result, const char *more);
 
+/* The documents' number of a result that is refused: "4", "5a". */
+struct figure refusal_number(uint64_t result);
+
 /* ---- words */
 
 /* For commands that take files and no options: a word that begins with - is wrong. */
 enum status no_options(const struct command *c, char **words, int count);
+
+/* For commands that take one image file and nothing else. */
+enum status one_image(const struct command *c, char **words, int count);
 
 /* The value of a digit in upper-case hex, or -1. */
 int hex_digit(char c);
@@ -67,9 +78,6 @@ int take_uid(struct uid *uid, char c);
 enum status flush_output(void);
 
 /* A number as document 01 writes it, with a comma before its last three digits. */
-struct figure {
-    char text[24];
-};
 struct figure figure(unsigned n);
 
 /* A UID in hex digits, highest byte first. */

@@ -1,21 +1,28 @@
-/* Image files, by the library. Quoted words are document 01's. */
+/* Image files, by the library. */
 #include "image.h"
 
 #include <stdio.h>
 
 #include "file.h"
 #include "frame.h"
+#include "header.h"
 
-enum { UID = 1 }; /* "Byte 0 .. 1 to 8 UID" */
-
-static enum status refused_load(const char *path, uint64_t result, size_t length)
+enum status refused_load(const char *path, const struct image *image, uint64_t result)
 {
-    char more[64] = "";
+    char more[256] = "";
     if (uistermo_refusal(result) == UISTERMO_REFUSED_IMAGE) {
-        int over = length > UISTERMO_IMAGE_64K;
-        snprintf(more, sizeof more, "; it has %s%s bytes", over ? "over " : "", figure((unsigned)(over ? UISTERMO_IMAGE_64K : length)).text);
+        int over = image->length > UISTERMO_IMAGE_64K;
+        snprintf(more, sizeof more, "; it has %s%s bytes", over ? "over " : "", figure((unsigned)(over ? UISTERMO_IMAGE_64K : image->length)).text);
+    } else if (is_header_fault(result)) {
+        snprintf(more, sizeof more, ", at place %zu: %s", uistermo_place(result), fault_of(image, result).text);
     }
     return refused(path, result, more);
+}
+
+uint64_t load_result(const struct image *image, struct tag *tag)
+{
+    tag->size = image->length == UISTERMO_IMAGE_16K ? UISTERMO_MEMORY_16K : UISTERMO_MEMORY_64K;
+    return uistermo_load(tag->record, image->bytes, image->length, tag->memory, tag->size);
 }
 
 enum status load_image(const char *path, struct image *image, struct tag *tag)
@@ -26,9 +33,8 @@ enum status load_image(const char *path, struct image *image, struct tag *tag)
 
 enum status load_read(const char *path, const struct image *image, struct tag *tag)
 {
-    tag->size = image->length == UISTERMO_IMAGE_16K ? UISTERMO_MEMORY_16K : UISTERMO_MEMORY_64K;
-    uint64_t result = uistermo_load(tag->record, image->bytes, image->length, tag->memory, tag->size);
-    return uistermo_refusal(result) ? refused_load(path, result, image->length) : DONE;
+    uint64_t result = load_result(image, tag);
+    return uistermo_refusal(result) ? refused_load(path, image, result) : DONE;
 }
 
 uint64_t image_uid(const struct image *image) { return uid_at(image->bytes + UID); }

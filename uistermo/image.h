@@ -24,7 +24,11 @@ struct image {
 enum status load_image(const char *path, struct image *image, struct tag *tag);
 enum status load_read(const char *path, const struct image *image, struct tag *tag);
 
-/* The UID of an image that was loaded. */
+/* The same in two steps: what the library says, and that it refused, with what is wrong with the file's length or with a byte of its header. */
+uint64_t load_result(const struct image *image, struct tag *tag);
+enum status refused_load(const char *path, const struct image *image, uint64_t result);
+
+/* The UID of an image that has a header. */
 uint64_t image_uid(const struct image *image);
 
 /* Whether save_image may succeed, as far as can be told without writing. */

@@ -4,8 +4,7 @@
 #include <stdio.h>
 #include <string.h>
 
-#include "command.h"
-#include "uistermo.h"
+#include "header.h"
 
 static void usage(const struct command *c)
 {
@@ -43,6 +42,14 @@ enum status flush_output(void)
     return fflush(stdout) == 0 && !ferror(stdout) ? DONE : unwritten("standard output", strerror(errno));
 }
 
+/* 5a to 5e are 5Ah to 5Eh. */
+struct figure refusal_number(uint64_t result)
+{
+    struct figure f;
+    snprintf(f.text, sizeof f.text, is_header_fault(result) ? "%" PRIx32 : "%" PRIu32, uistermo_refusal(result));
+    return f;
+}
+
 /* The words are those of document 01's table, "Host calls and their numbers", and of document 02's requests. */
 enum status refused(const char *path, uint64_t result, const char *more)
 {
@@ -51,15 +58,19 @@ enum status refused(const char *path, uint64_t result, const char *more)
         [UISTERMO_REFUSED_ROOM] = "answer room is below 10,243 bytes",
         [UISTERMO_REFUSED_RECORD] = "tag record breaks a record rule below",
         [UISTERMO_REFUSED_IMAGE] = "image is not 2,112 or 8,256 bytes",
-        [UISTERMO_REFUSED_HEADER] = "image header breaks a rule, or byte 0 does not fit the image's length",
+        [UISTERMO_REFUSED_MARK] = "size mark",
+        [UISTERMO_REFUSED_LOCK] = "lock byte",
+        [UISTERMO_REFUSED_PROTECTION] = "protection byte",
+        [UISTERMO_REFUSED_END] = "area end",
+        [UISTERMO_REFUSED_RESERVED] = "reserved byte",
         [UISTERMO_REFUSED_TAGS] = "more than 256 tags",
         [UISTERMO_REFUSED_EQUAL] = "two UIDs are equal",
         [UISTERMO_REFUSED_SMALL] = "the list's room is too small for all",
     };
     uint32_t number = uistermo_refusal(result);
     int known = number < sizeof words / sizeof *words && words[number];
-    fprintf(stderr, "uistermo: %s: refused %u: %s%s\n", path, (unsigned)number, known ? words[number] : "a number that this tool does not know",
-            more);
+    fprintf(stderr, "uistermo: %s: refused %s: %s%s\n", path, refusal_number(result).text,
+            known ? words[number] : "a number that this tool does not know", more);
     return REFUSED;
 }
 

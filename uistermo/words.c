@@ -12,6 +12,15 @@ enum status no_options(const struct command *c, char **words, int count)
     return DONE;
 }
 
+enum status one_image(const struct command *c, char **words, int count)
+{
+    if (no_options(c, words, count) != DONE)
+        return WRONG;
+    if (count < 1)
+        return wrong_words(c, "an image file is needed");
+    return count > 1 ? wrong_word(c, words[1], "one image file is enough") : DONE;
+}
+
 int hex_digit(char c)
 {
     static const char digits[] = "0123456789ABCDEF";

@@ -10,7 +10,7 @@ from worked import CASEBOOK_PARTS, SESSION_CASES, SESSION_INPUT, SESSION_OUTPUT
 
 from .streams import casebook_stream, tagrun_stream
 
-# With this seed and so many groups every branch is reached, and both files together stay under 7 MB.
+# With this seed and so many groups every branch is reached, and stdin stays under 6 MB.
 CASEBOOK_SEED, CASEBOOK_GROUPS = 1, 384
 TAGRUN_SEED, TAGRUN_LINES = 1, 4000
 

@@ -9,6 +9,7 @@ from .bad_input import MEGABYTE, Settings
 from .tool_builds import example_host, sanitized
 from .tool_factory import factories, wrong_factories
 from .tool_files import files
+from .tool_header import headers, typed_headers
 from .tool_interrupts import interrupts
 from .tool_limits import limits
 from .tool_meanwhile import meanwhile
@@ -48,6 +49,8 @@ def parts(root, amounts):
         "factory": factories,
         "wrong factory": wrong_factories,
         "show": lambda trial: shows(trial, amounts.shown),
+        "header": lambda trial: headers(trial, amounts.shown),
+        "headers typed wrong": typed_headers,
         "session of 01": printed_session,
         "sessions": lambda trial: sessions(trial, amounts.tags),
         "streams": lambda trial: streams(trial, amounts.seeds, amounts.lines),

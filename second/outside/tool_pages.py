@@ -18,6 +18,7 @@ PROMPT = "$ "
 HELP_WORDS = {  # with the help asked for among other words, sound and wrong ones
     "factory": (["-h"], ["16", "-h"], ["--help", "17", "no UID"], ["16", "E002230401D6C8F0", "new.img", "--help"]),
     "show": (["-h"], ["none.img", "--help"], ["-h", "a", "b", "c"]),
+    "header": (["-h"], ["none.img", "--help"], ["-h", "a", "b", "c"], ["--wrong", "--help"]),
     "run": (["-h"], ["tag.img", "-h"], ["--help", "--wrong"], ["none.img", "-", "--out", "new.img", "--help"]),
     "tray": (["-h"], ["none.txt", "-h"], ["--help", "--wrong"], ["--trace", "-", "-", "--help"]),
 }

@@ -4,20 +4,19 @@ import re
 
 from generator import scenes
 from generator.dice import Dice
-from tagmodel.sizes import SIZES
+from tagmodel.sizes import SIZES, size_of_image
 
+from .tool_faults import fault_line, fault_of
 from .tool_runs import REFUSED, SOME_LINES, said, wrong_words
 from .tool_tags import REPLACED, SESSION_UID, any_image, factory_image, refusal
 
 LENGTHS = (0, 1, 63, 64, 2048, 2111, 2113, 8192, 8255, 8257, 20000, 300000)
 LONGEST_IMAGE = 8256
-REFUSALS = {  # 01's table of host calls and their numbers; no other of them can come from an image
-    4: "image is not 2,112 or 8,256 bytes",
-    5: "image header breaks a rule, or byte 0 does not fit the image's length",
-}
+NO_LENGTH = "4: image is not 2,112 or 8,256 bytes"  # 01's number and its words
 STREAM = b"ON\n022000\n"
-COMMANDS = ("factory", "show", "run", "tray")
-UNKNOWN = ("Show", "shows", "sho", "trays", "Tray", "", "FACTORY", "--out", "-x", "--version", "-", "show ", "16", "tag.img")
+COMMANDS = ("factory", "show", "header", "run", "tray")
+UNKNOWN = ("Show", "shows", "sho", "headers", "head", "Header", "trays", "Tray", "", "FACTORY", "--out", "-x",
+           "--version", "-", "show ", "16", "tag.img")
 WRONG_WORDS = {  # the words after each command, with the one that has to be named
     "factory": (([], ""), (["16"], ""), (["16", SESSION_UID], ""), (["tag.img"], ""),
                 (["-x", "16", SESSION_UID, "tag.img"], "-x"), (["16", SESSION_UID, "--out", "tag.img"], "--out"),
@@ -27,6 +26,9 @@ WRONG_WORDS = {  # the words after each command, with the one that has to be nam
     "show": (([], ""), (["tag.img", "out.img"], "'out.img'"), (["tag.img", "session.txt", "tag.img"], ""),
              (["-x"], "-x"), (["-"], "'-'"),
              (["tag.img", "--all"], "--all"), (["--out", "out.img", "tag.img"], "--out"), (["-tag.img"], "-tag.img")),
+    "header": (([], ""), (["tag.img", "out.img"], "'out.img'"), (["tag.img", "tag.img"], "'tag.img'"), (["-x"], "-x"),
+               (["-"], "'-'"), (["tag.img", "-"], "'-'"), (["tag.img", "--all"], "--all"), (["--"], "--"),
+               (["--out", "out.img", "tag.img"], "--out"), (["-tag.img"], "-tag.img")),
     "run": (([], ""), (["--out", "out.img"], ""), (["tag.img", "session.txt", "tag.img"], ""),
             (["tag.img", "-", "-"], ""), (["tag.img", "session.txt", "-", "--out", "out.img"], ""),
             (["tag.img", "--out"], "--out"), (["--out"], "--out"), (["tag.img", "session.txt", "--out"], "--out"),
@@ -46,10 +48,11 @@ WRONG_WORDS = {  # the words after each command, with the one that has to be nam
 
 
 def refusal_line(path, image):
-    """Number and 01's words for it, with the image's length after number 4."""
-    number = refusal(image)
+    """The number and its words: 4 with the image's length, 5a to 5e with the place and what stands there."""
+    if size_of_image(len(image)):
+        return said(f"{path}: refused {fault_line(image, fault_of(image))}")
     length = f"over {LONGEST_IMAGE:,}" if len(image) > LONGEST_IMAGE else f"{len(image):,}"
-    return said(f"{path}: refused {number}: {REFUSALS[number]}" + (f"; it has {length} bytes" if number == 4 else ""))
+    return said(f"{path}: refused {NO_LENGTH}; it has {length} bytes")
 
 
 def refused_image(trial, what, image):

@@ -16,7 +16,8 @@ HIGHEST = ((FIELD, 1, "field-value"), (STATE, 2, "state-value"), (SESSION, 4, "s
 
 def record_of_bytes(data, size):
     """The record, or a NoRecord; `size` is that of the lent memory."""
-    fault = header_fault(data[:HEADER_BYTES], size) or passing_bytes_fault(data)
+    wrong = header_fault(data[:HEADER_BYTES], size)
+    fault = wrong.rule if wrong else passing_bytes_fault(data)
     if fault:
         return NoRecord(fault)
     record = record_of_header(data[:HEADER_BYTES])

@@ -20,12 +20,15 @@ ADDRESSED_ONLY = ("02", "25")
 MODES = ("addressed.Ready", "addressed.Quiet", "addressed.Selected",
          "select.Selected", "plain.Ready", "plain.Selected")
 
-HEADER_FAULTS = (
-    "size-mark-other", "size-mark-unknown", "lock-bits",
-    "protection-1", "protection-2", "protection-3", "protection-4",
-    "end-1-over", "end-2-over", "end-3-over", "end-2-not-above", "end-3-not-above",
-    "end-2-after-last", "end-3-after-last",
-) + tuple(f"reserved-{place}" for place in range(51, 64))
+# What a header can break, by the number that a load gives for it.
+HEADER_FAULTS = {
+    "5a": ("size-mark-other", "size-mark-unknown"),
+    "5b": ("lock-bits",),
+    "5c": ("protection-1", "protection-2", "protection-3", "protection-4"),
+    "5d": ("end-1-over", "end-2-over", "end-3-over", "end-2-not-above", "end-3-not-above",
+           "end-2-after-last", "end-3-after-last"),
+    "5e": tuple(f"reserved-{place}" for place in range(51, 64)),
+}
 PASSING_FAULTS = (
     "field-value", "state-value", "session-value", "round-value", "held-value",
     "slot-without-round", "mask-without-round", "code-without-error", "error-without-code",
@@ -108,14 +111,16 @@ def call_branches():
     """Host calls with each refusal by each condition."""
     names = under("event", "refusal-1.memory refusal-2.room answer silence")
     names += under("load", "refusal-4.image refusal-1.memory refusal-1.memory-does-not-fit done-1 done-2")
-    names += under("load.refusal-5", HEADER_FAULTS)
+    for number, faults in HEADER_FAULTS.items():
+        names += under(f"load.refusal-{number}", faults)
     names += under("save", "refusal-4.image refusal-1.memory refusal-1.memory-does-not-fit"
                    " done-1.field-off done-1.field-on done-2.field-off done-2.field-on")
     names += under("factory", "refusal-1.memory done-1 done-2")
     names += under("search", "refusal-6 refusal-7 refusal-18 list-full entries-after")
     names += under("search", [f"mask-{bits}" for bits in range(0, 64, 4)])
     for call in ("event", "save"):
-        names += under(f"{call}.refusal-3", HEADER_FAULTS + PASSING_FAULTS)
+        for faults in (*HEADER_FAULTS.values(), PASSING_FAULTS):
+            names += under(f"{call}.refusal-3", faults)
     return names
 
 

@@ -136,8 +136,13 @@ class Casebook:
         if result.number == host.NO_REFUSAL:
             self.record = bytes_of_record(result.record, size_of_memory(len(self.memory)))
         answer = hex_of(buffer[:result.length]) or "-"
-        return (f"{result.number} {result.length} {answer} {hex_of(self.record)}"
+        return (f"{shown_number(result)} {result.length} {answer} {hex_of(self.record)}"
                 f" {crc(self.memory):04X} {crc(buffer):04X}")
+
+
+def shown_number(result):
+    """5a to 5e 'are printed with their place, also where it is 0'; the others have none."""
+    return str(result.number) if result.place is None else f"{result.number:x}:{result.place}"
 
 
 def two_parts(rest):

@@ -1,6 +1,6 @@
-"""The host calls and their refusals. A refusal returns its number and length 0."""
+"""The host calls and their refusals. A refusal returns its number, length 0 and, for a header, the place at fault."""
 
-from typing import NamedTuple, Union
+from typing import NamedTuple, Optional, Union
 
 from .branches import hit
 from .image import header_fault, header_of_record, record_of_header
@@ -9,22 +9,23 @@ from .rules import record_fault
 from .sizes import HEADER_BYTES, LONGEST_ANSWER, size_of_image, size_of_memory
 from .tag import step
 
-BAD_MEMORY, BAD_ROOM, BAD_RECORD, BAD_IMAGE_LENGTH, BAD_HEADER = 1, 2, 3, 4, 5
+BAD_MEMORY, BAD_ROOM, BAD_RECORD, BAD_IMAGE_LENGTH = 1, 2, 3, 4  # 5a to 5e are 5Ah to 5Eh, see image
 NO_REFUSAL = 0
 
 
 class Result(NamedTuple):
-    """The number of the refusal (0 for none), the length of the answer, the next record."""
+    """The number of the refusal (0 for none), the length of the answer, the next record, the place that 5a to 5e have."""
 
     number: int
     length: int
     record: Union[Record, NoRecord]
+    place: Optional[int] = None
 
 
-def refuse(call, number, reason, record):
+def refuse(call, number, reason, record, place=None):
     """'record and buffers stay'."""
-    hit(f"{call}.refusal-{number}.{reason}")
-    return Result(number, 0, record)
+    hit(f"{call}.refusal-{number:x}.{reason}")
+    return Result(number, 0, record, place)
 
 
 def event(record, memory, room, happening):
@@ -44,7 +45,7 @@ def event(record, memory, room, happening):
 
 
 def load(record, memory, image):
-    """'Loading checks 4, then 1, then 5'; it 'fills the memory and returns the record, length 0'."""
+    """'Loading checks 4, then 1, then 5', '5a to 5e stand where 5 stood'; it 'fills the memory and returns the record'."""
     size = size_of_image(len(image))
     if size is None:
         return refuse("load", BAD_IMAGE_LENGTH, "image", record)
@@ -52,7 +53,7 @@ def load(record, memory, image):
         return refuse("load", BAD_MEMORY, memory_fault(memory), record)
     fault = header_fault(image[:HEADER_BYTES], size)
     if fault:
-        return refuse("load", BAD_HEADER, fault, record)
+        return refuse("load", fault.number, fault.rule, record, fault.place)
     memory[:] = image[HEADER_BYTES:]
     hit(f"load.done-{size.mark}")
     return Result(NO_REFUSAL, 0, record_of_header(image[:HEADER_BYTES]))

@@ -1,7 +1,9 @@
-"""'Image: 64-byte header, then user memory.'"""
+"""'Image: 64-byte header, then user memory', and where a header is wrong (document 02, W-202)."""
+
+from typing import NamedTuple
 
 from .record import ALL_LOCKS, Record
-from .rules import register_fault
+from .rules import fault_of_register
 from .sizes import HEADER_BYTES, SIZES
 
 MARK = 0
@@ -12,22 +14,58 @@ LOCKS = 11
 REGISTERS = slice(12, 19)
 PASSWORDS = 19
 PASSWORD_BYTES = 8
+PROTECTIONS, ENDS = (12, 14, 16, 18), (13, 15, 17)
 RESERVED = range(51, HEADER_BYTES)
 
 
+class HeaderFault(NamedTuple):
+    """5Ah to 5Eh for 5a to 5e, the place of the byte that offends, and the rule that it breaks."""
+
+    number: int
+    place: int
+    rule: str
+
+
+def mark_rule(header, place, size):
+    """'1 for 16 Kbit, 2 for 64 Kbit', as the image's length has it."""
+    if header[place] == size.mark:
+        return None
+    return "size-mark-other" if header[place] in [other.mark for other in SIZES] else "size-mark-unknown"
+
+
+def lock_rule(header, place, size):
+    """Five bits, 'others 0'."""
+    return "lock-bits" if header[place] & ~ALL_LOCKS else None
+
+
+def register_rule(header, place, size):
+    """The record rules; E is that of the image's length."""
+    return fault_of_register(header[REGISTERS], place - REGISTERS.start, size.last_end)
+
+
+def reserved_rule(header, place, size):
+    """'51 to 63 zero'."""
+    return f"reserved-{place}" if header[place] else None
+
+
+# '5a size mark, 5b lock byte, 5c protection byte, 5d area end, 5e reserved byte', each with its places. Each rule names
+# what the byte at a place breaks, or None.
+KINDS = ((0x5A, (MARK,), mark_rule), (0x5B, (LOCKS,), lock_rule), (0x5C, PROTECTIONS, register_rule),
+         (0x5D, ENDS, register_rule), (0x5E, RESERVED, reserved_rule))
+
+
+def offending(header, size):
+    """All bytes that offend, letter by letter."""
+    for number, places, rule in KINDS:
+        for place in places:
+            broken = rule(header, place, size)
+            if broken:
+                yield HeaderFault(number, place, broken)
+
+
 def header_fault(header, size):
-    """The first rule that a header breaks, lowest byte first, or None."""
-    if header[MARK] != size.mark:
-        return "size-mark-other" if header[MARK] in [other.mark for other in SIZES] else "size-mark-unknown"
-    if header[LOCKS] & ~ALL_LOCKS:
-        return "lock-bits"
-    fault = register_fault(header[REGISTERS], size.last_end)
-    if fault:
-        return fault
-    for place in RESERVED:
-        if header[place] != 0:
-            return f"reserved-{place}"
-    return None
+    """The fault 'with the lowest offending byte's place', or None where no byte offends."""
+    return min(offending(header, size), key=lambda fault: fault.place, default=None)
 
 
 def record_of_header(header):

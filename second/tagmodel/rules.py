@@ -15,26 +15,27 @@ def record_fault(record, last_end):
 
 
 def register_fault(registers, last_end):
-    """'each RFAiSS is at most 0Fh; each ENDAi is at most E', and the order of the ends.
-
-    The registers are tried in their order, an end's own value before its order.
-    """
-    ends = []
-    for index, value in enumerate(registers):
-        area = index // 2 + 1
-        if index % 2 == 0:
-            if value > HIGHEST_PROTECTION:
-                return f"protection-{area}"
-        else:
-            fault = end_fault(ends, area, value, last_end)
-            if fault:
-                return fault
-            ends.append(value)
+    """The rule that the first register at fault breaks."""
+    for index in range(len(registers)):
+        fault = fault_of_register(registers, index, last_end)
+        if fault:
+            return fault
     return None
 
 
+def fault_of_register(registers, index, last_end):
+    """'each RFAiSS is at most 0Fh; each ENDAi is at most E', and an end's order after those before it."""
+    area, value = index // 2 + 1, registers[index]
+    if index % 2:
+        return end_fault(registers[1:index:2], area, value, last_end)
+    return f"protection-{area}" if value > HIGHEST_PROTECTION else None
+
+
 def end_fault(earlier_ends, area, value, last_end):
-    """'if ENDAi is below E then ENDA(i+1) is above ENDAi; if ENDAi is E then all later ends are E'."""
+    """'if ENDAi is below E then ENDA(i+1) is above ENDAi; if ENDAi is E then all later ends are E'.
+
+    The later end of a wrong pair is at fault, and the end's own value is tried before its order.
+    """
     if value > last_end:
         return f"end-{area}-over"
     if earlier_ends and earlier_ends[-1] == last_end and value != last_end:

@@ -22,17 +22,20 @@ from tagmodel.tray import Tray
 
 READ_MOST = 8257  # one byte more than the longest image
 SIZE_WORDS = {"16": SIZES[0], "64": SIZES[1]}
-USAGE = {"factory": "factory 16|64 UID IMAGE", "show": "show IMAGE", "run": "run IMAGE [SESSION] [--out FILE]",
-         "tray": "tray [--trace] [UID | FILE | -].."}
+USAGE = {"factory": "factory 16|64 UID IMAGE", "show": "show IMAGE", "header": "header IMAGE",
+         "run": "run IMAGE [SESSION] [--out FILE]", "tray": "tray [--trace] [UID | FILE | -].."}
 EXAMPLES = {
     "factory": ["factory 16 E002230401D6C8F0 tag.img"],
     "show": ["factory 64 E0:02:23:04:01:D6:C8:F0 tag.img", "show tag.img"],
+    "header": ["factory 64 E0:02:23:04:01:D6:C8:F0 tag.img", "header tag.img"],
     "run": ["factory 16 E002230401D6C8F0 tag.img", "run tag.img examples/session.txt"],
     "tray": ["tray --trace E002230401D6C8F0 E0:02:23:04:01:D6:C8:E0"],
 }
 UID = re.compile(r"[0-9A-Fa-f]{2}([ :]*[0-9A-Fa-f]{2}){7}")
-REFUSALS = {4: "image is not 2,112 or 8,256 bytes",
-            5: "image header breaks a rule, or byte 0 does not fit the image's length"}
+NO_LENGTH = "image is not 2,112 or 8,256 bytes"
+FAULTS = {"5a": "size mark", "5b": "lock byte", "5c": "protection byte", "5d": "area end", "5e": "reserved byte"}
+REGISTERS = "RFA1SS ENDA1 RFA2SS ENDA2 RFA3SS ENDA3 RFA4SS".split()  # bytes 12 to 18
+PASSWORD_ROWS = "not shown"
 NEEDS = {"always": "always", "session": "in its session", "never": "never"}
 LOCKS = ("block 0", "block 1", "AFI", "DSFID", "configuration (LOCK_CFG)")
 SIGNALS = (signal.SIGINT, signal.SIGTERM, signal.SIGHUP, signal.SIGQUIT)
@@ -139,10 +142,81 @@ def tag_of_image(path, image):
     memory = bytearray(size.memory_bytes)
     result = host.load(None, memory, image)
     if result.number:
-        length = f"over {READ_MOST - 1:,}" if len(image) == READ_MOST else f"{len(image):,}"
-        more = f"; it has {length} bytes" if result.number == 4 else ""
-        raise Stop(1, f"{path}: refused {result.number}: {REFUSALS[result.number]}{more}")
+        raise Stop(1, f"{path}: refused {refusal_text(image)}")
     return result.record, memory
+
+
+def is_refused(image):
+    """Whether the model refuses an image that has the memory of its length."""
+    return bool(host.load(None, bytearray(len(image) - HEADER_BYTES), image).number)
+
+
+def sound_image(length):
+    """A factory tag's image of this length."""
+    memory, image = bytearray(length - HEADER_BYTES), bytearray(length)
+    host.save(host.factory(None, memory, 0).record, memory, image)
+    return image
+
+
+def fault_place(image):
+    """The lowest byte that is wrong: the bytes up to it are refused also before a factory tag's."""
+    sound = sound_image(len(image))
+    return next(place for place in range(HEADER_BYTES) if is_refused(image[:place + 1] + sound[place + 1:]))
+
+
+def fault_letter(place):
+    """The number of a fault at this place."""
+    return "5" + ("a" if place == 0 else "b" if place == 11 else "e" if place > 50 else "cd"[place % 2])
+
+
+def both(end):
+    """An end in hex and decimal."""
+    return f"{end:02X}h ({end})"
+
+
+def end_reason(image, place):
+    """Why an end is wrong, and what it may be."""
+    size, before, name = size_of_image(len(image)), image[place - 2] if place > 13 else -1, REGISTERS[place - 14]
+    low = min(before + 1, size.last_end)
+    span = f"may be {low:02X}h to {size.last_end:02X}h ({low} to {size.last_end})"
+    may = span if low < size.last_end else f"has to be {both(low)}"
+    if image[place] > size.last_end:
+        reason = f"above E, which is {both(size.last_end)} for {size.blocks // 32} Kbit"
+    elif before < size.last_end:
+        reason = f"not above {name}, which is {both(before)}"
+    else:
+        reason = f"but {name} is E, {both(before)}, after which every end is E"
+    return f"{REGISTERS[place - 12]} is {both(image[place])}, {reason}; it {may}"
+
+
+def set_bits(locks):
+    """The names of bits 5 to 7 that are set."""
+    return {1: "bit 5", 2: "bit 6", 3: "bits 5 and 6", 4: "bit 7", 5: "bits 5 and 7", 6: "bits 6 and 7",
+            7: "bits 5, 6 and 7"}[locks >> 5]
+
+
+def fault_reason(image, place):
+    """What stands at this place, and what may."""
+    letter, size, value = fault_letter(place), size_of_image(len(image)), f"{image[place]:02X}h"
+    return {
+        "5a": lambda: f"it is {value}; the file has {len(image):,} bytes, as the image of a {size.blocks // 32} Kbit "
+                      f"tag, so it has to be {size.mark:02X}h",
+        "5b": lambda: f"it is {value}, with {set_bits(image[place])} set; bits 5 to 7 have to be 0, "
+                      "so it may be 00h to 1Fh",
+        "5c": lambda: f"{REGISTERS[place - 12]} is {value}; it may be 00h to 0Fh",
+        "5d": lambda: end_reason(image, place),
+        "5e": lambda: f"it is {value}; it has to be 00h",
+    }[letter]()
+
+
+def refusal_text(image):
+    """Number and words for an image that is refused."""
+    if size_of_image(len(image)):
+        place = fault_place(image)
+        letter = fault_letter(place)
+        return f"{letter}: {FAULTS[letter]}, at place {place}: {fault_reason(image, place)}"
+    length = f"over {READ_MOST - 1:,}" if len(image) == READ_MOST else f"{len(image):,}"
+    return f"4: {NO_LENGTH}; it has {length} bytes"
 
 
 def save(path, record, memory):
@@ -199,6 +273,81 @@ def show(path):
     where = f"other than 00h in {len(filled):,} of {blocks:,} blocks, first in block {filled[0]:,}" if filled else ""
     lines += [f"memory    {'not empty, ' + where if filled else 'empty, every byte is 00h'}", ""]
     answered("\n".join(lines).encode("ascii"))
+
+
+# ---- headers
+
+
+def locks_text(locks):
+    """What is locked."""
+    names = (*LOCKS, "bit 5", "bit 6", "bit 7")
+    return ", ".join(names[bit] for bit in range(8) if locks & 1 << bit) or "nothing"
+
+
+def area_of_block(image, block):
+    """The lowest area whose end is not passed, or Area 4."""
+    return 1 + sum(all(block > 8 * end + 7 for end in image[13:place + 1:2]) for place in (13, 15, 17))
+
+
+def area_blocks(image, area):
+    """The blocks of an area, whatever its ends are."""
+    blocks = (len(image) - HEADER_BYTES) // BLOCK_BYTES
+    its = [block for block in range(blocks) if area_of_block(image, block) == area]
+    return f"Area {area} has blocks {its[0]:,} to {its[-1]:,}" if its else f"Area {area} has no blocks"
+
+
+def register_text(image, place, fault):
+    """What a protection byte or an area end says."""
+    value, area = image[place], (place - 10) // 2
+    if place % 2:
+        has = ", ".join(area_blocks(image, its) for its in ((3, 4) if area == 3 else (area,)))
+        return f"{value}" if 0 <= fault < place else f"{value}: {has}"
+    if value > 0x0F:
+        return f"Area {area}: {value:02X}h is above 0Fh"
+    record = host.factory(None, bytearray(2048), 0).record.with_register(place - 12, value)
+    return f"Area {area}: {area_text(record, 0, area).split(', ', 1)[1]}"
+
+
+def header_rows(image, fault):
+    """Places, bytes, name and meaning of each row."""
+    size = size_of_image(len(image))
+    yield 0, 1, "size mark", f"{size.blocks // 32} Kbit, {size.blocks:,} blocks of 4 bytes"
+    yield 1, 9, "UID, lowest byte first", image[8:0:-1].hex().upper()
+    yield 9, 10, "AFI", f"{image[9]:02X}h"
+    yield 10, 11, "DSFID", f"{image[10]:02X}h"
+    yield 11, 12, "lock byte", "locked: " + locks_text(image[11])
+    for place, name in enumerate(REGISTERS, 12):
+        yield place, place + 1, ("area end " if place % 2 else "protection byte ") + name, register_text(image, place, fault)
+    for number, place in enumerate(range(19, 51, 8)):
+        yield place, place + 8, f"password {number}", "of areas" if number else "of the configuration"
+    cuts = [51]
+    while cuts[-1] < HEADER_BYTES:
+        stops = [cuts[-1] + 8, HEADER_BYTES] + [stop for stop in (fault, fault + 1) if stop > cuts[-1]]
+        cuts.append(min(stops))
+    for place, end in zip(cuts, cuts[1:]):
+        yield place, end, "reserved bytes" if end - place > 1 else "reserved byte", "to be 00h"
+
+
+def row_bytes(image, place, end):
+    """The bytes of a row, but for passwords."""
+    return PASSWORD_ROWS if 19 <= place < 51 else image[place:end].hex().upper()
+
+
+def header(path):
+    """header IMAGE"""
+    image = read_image(path)
+    if not size_of_image(len(image)):
+        tag_of_image(path, image)
+    fault = fault_place(image) if is_refused(image) else HEADER_BYTES
+    lines = ["place     bytes             what it is              what it says"]
+    for place, end, name, says in header_rows(image, fault):
+        if place == fault:
+            says = f"<-- {fault_letter(place)}: {fault_reason(image, place)}"
+        places = f"{place} to {end - 1}" if end - place > 1 else str(place)
+        lines.append(f"{places:10}{row_bytes(image, place, end):16}  {name:24}{says}")
+    last = f"the lowest byte at fault is at place {fault}; those after it are not judged"
+    answered("\n".join([*lines, "the header breaks no rule" if fault == HEADER_BYTES else last, ""]).encode("ascii"))
+    tag_of_image(path, image)
 
 
 # ---- sessions
@@ -454,7 +603,7 @@ def tray(*words):
     answered("\n".join([*lines, *uid_lines(found), f"{len(requests)} requests", ""]).encode("ascii"))
 
 
-COMMANDS = {"factory": factory, "show": show, "run": run, "tray": tray}
+COMMANDS = {"factory": factory, "show": show, "header": header, "run": run, "tray": tray}
 
 
 def do(words):
@@ -465,7 +614,7 @@ def do(words):
     if command in ("-h", "--help", "help"):
         print("\n".join(USAGE.values()))
     elif command not in COMMANDS:
-        raise Stop(2, f"{command}: no command; the commands are factory, show, run and tray")
+        raise Stop(2, f"{command}: no command; the commands are factory, show, header, run and tray")
     elif "-h" in rest or "--help" in rest:
         print(f"usage: uistermo {USAGE[command]}\n\nExample:")
         for line in EXAMPLES[command]:
@@ -474,9 +623,9 @@ def do(words):
         for word in rest:
             if word.startswith("-") and word != "-" and (command, word) not in OPTIONS:
                 raise wrong(command, f"{word}: no option of {command}")
-        if command == "show" and len(rest) != 1:
+        if command in ("show", "header") and len(rest) != 1:
             raise wrong(command, f"'{rest[1]}' is a word too many" if rest else "one image")
-        if command in ("factory", "show") and rest and rest[-1] in NOT_IMAGES:
+        if command in ("factory", "show", "header") and rest and rest[-1] in NOT_IMAGES:
             raise wrong(command, "'-' is no image")
         COMMANDS[command](*rest)
 

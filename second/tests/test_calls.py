@@ -1,4 +1,4 @@
-"""Host calls: refusals 1 to 5 in their order, record rules one by one, images."""
+"""Host calls: refusals in their order, record rules one by one, images. Letters and places of 5 are in test_headers."""
 
 import unittest
 
@@ -106,7 +106,7 @@ class Refusals(unittest.TestCase):
             self.assertEqual(event_number(self.BROKEN, happening=happening), 3)
 
     def test_load_order(self):
-        """4, then 1, then 5."""
+        """4, then 1, then 5a to 5e, which are 5Ah to 5Eh."""
         bad = record_bytes(changes={0: 3})
         for image in (0, 64, 2111, 2113, 8255, 8257):
             self.assertEqual(load_number(bad, 0, image), 4)
@@ -115,8 +115,8 @@ class Refusals(unittest.TestCase):
             self.assertEqual(load_number(bad, memory), 1)
             self.assertEqual(load_number(self.SOUND, memory), 1)
         self.assertEqual(load_number(self.SOUND, 2048, 8256), 1)
-        self.assertEqual(load_number(bad), 5)
-        self.assertEqual(load_number(self.SOUND, 8192, 8256), 5)  # mark 1 with the large image
+        self.assertEqual(load_number(bad), 0x5A)
+        self.assertEqual(load_number(self.SOUND, 8192, 8256), 0x5A)  # mark 1 with the large image
         self.assertEqual(load_number(self.SOUND), 0)
 
     def test_save_order(self):
@@ -132,7 +132,7 @@ class Refusals(unittest.TestCase):
 
     def test_header_rules(self):
         for name, changes in HEADER_FAULTS.items():
-            self.assertEqual(load_number(record_bytes(changes=changes)), 5, name)
+            self.assertIn(load_number(record_bytes(changes=changes)), range(0x5A, 0x5F), name)
         for changes in SOUND:
             self.assertEqual(load_number(record_bytes(changes=changes)), 0, changes)
 
@@ -142,7 +142,7 @@ class Refusals(unittest.TestCase):
             tag = Tag(**parts)
             short = bytearray(b"\xEE" * 10242)
             result = host.event(tag.record, tag.memory, short, framed("022100A1A2A3A4"))
-            self.assertEqual(result, (2, 0, tag.record))
+            self.assertEqual(result, (2, 0, tag.record, None))
             self.assertEqual((tag.memory, short), (bytes(2048), b"\xEE" * 10242))
 
     def test_refused_load_and_save(self):
@@ -150,9 +150,9 @@ class Refusals(unittest.TestCase):
         tag.number_blocks()
         before, image = bytes(tag.memory), bytearray(b"\xEE" * 2112)
         wrong = record_bytes(changes={63: 1})[:64] + bytes(2048)
-        self.assertEqual(host.load(tag.record, tag.memory, wrong), (5, 0, tag.record))
+        self.assertEqual(host.load(tag.record, tag.memory, wrong), (0x5E, 0, tag.record, 63))
         broken = tag.record._replace(round=Round(16, 0))
-        self.assertEqual(host.save(broken, tag.memory, image), (3, 0, broken))
+        self.assertEqual(host.save(broken, tag.memory, image), (3, 0, broken, None))
         self.assertEqual((tag.memory, image), (before, b"\xEE" * 2112))
 
 
@@ -194,14 +194,14 @@ class Images(unittest.TestCase):
             image = bytes((mark,)) + self.HEADER[1:] + bytes(range(256)) * (size.memory_bytes // 256)
             memory, saved = bytearray(size.memory_bytes), bytearray(b"\xEE" * len(image))
             record = host.load(NoRecord("not looked at"), memory, image).record
-            self.assertEqual(host.save(record, memory, saved), (0, len(image), record))
+            self.assertEqual(host.save(record, memory, saved), (0, len(image), record, None))
             self.assertEqual(saved, image)
 
     def test_saving_with_the_field_on(self):
         """Lasting parts only; the record that is saved stays as it is."""
         tag = Tag(state="Selected", session=2, held=0x0F)
         image = bytearray(2112)
-        self.assertEqual(host.save(tag.record, tag.memory, image), (0, 2112, tag.record))
+        self.assertEqual(host.save(tag.record, tag.memory, image), (0, 2112, tag.record, None))
         self.assertEqual(host.load(tag.record, bytearray(2048), image).record, Tag(field=False).record)
 
     def test_factory_images(self):

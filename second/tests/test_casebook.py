@@ -108,7 +108,7 @@ class Calls(unittest.TestCase):
         image = bytearray(record_bytes()[:64] + OFF_MEMORY)
         image[0] = 2
         answers = ask("REC " + "FF" * 72, "LOAD " + hexed(image), "MEM 8192", "LOAD " + hexed(image))
-        self.assertEqual(answers[1], line(5, b"", no_record, OFF_MEMORY, FRESH_ROOM))
+        self.assertEqual(answers[1], line("5a:0", b"", no_record, OFF_MEMORY, FRESH_ROOM))
         self.assertEqual(answers[3], line(1, b"", no_record, bytes(8192), FRESH_ROOM))
 
     def test_save_shows_the_image_and_leaves_the_room(self):

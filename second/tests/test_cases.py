@@ -26,7 +26,7 @@ class Branches(unittest.TestCase):
         """Too few cases leave branches at zero: the program names them and fails."""
         code, output = run_program("branches", b"", "--groups", "1", "--lines", "1")
         self.assertEqual(code, 1)
-        self.assertIn(b"not reached: casebook.LOAD", output)
+        self.assertIn(b"not reached: casebook.question.LOAD", output)
         self.assertNotIn(b"not reached: lines.", output)
 
     def test_names_are_declared_once(self):
@@ -102,6 +102,14 @@ class AddedKinds(unittest.TestCase):
         self.assertTrue({0, 1, 2, 3, 4, 5, 6, 7, 8, 16, 32, 256, 257} <= set(sizes))
         self.assertGreater(len(set(sizes)), 40)
         self.assertLessEqual(max(sizes), 300)
+
+    def test_fresh_cases_have_wrong_headers(self):
+        """In twelve turns of any seed there is a load that is refused at each place, and one that is taken."""
+        with mock.patch.object(casebook_cases, "ADDED", casebook_cases.ADDED[2:]):
+            lines = list(added_lines(6, 12))
+        numbers = {answer.split(" ")[0] for each, answer in zip(lines, self.answers(lines)) if each.startswith(b"LOAD")}
+        self.assertEqual(numbers, {"0", "5a:0", "5b:11", *(f"5c:{place}" for place in (12, 14, 16, 18)),
+                                   *(f"5d:{place}" for place in (13, 15, 17)), *(f"5e:{place}" for place in range(51, 64))})
 
     def test_other_seeds_have_others(self):
         self.assertEqual(len({b"".join(added_lines(seed, 1)) for seed in range(1, 30)}), 29)

@@ -36,7 +36,7 @@ class HostCall(unittest.TestCase):
                 memory = bytearray(b"\xAA" * length)
                 expected = Record(uid=UID, afi=0, dsfid=0, locks=0, registers=(0, end, 0, end, 0, end, 0),
                                   passwords=(0, 0, 0, 0), field=False, state="Ready", session=None, round=None, held=None)
-                self.assertEqual(host.factory(before, memory, UID), (0, 0, expected))
+                self.assertEqual(host.factory(before, memory, UID), (0, 0, expected, None))
                 self.assertEqual(memory, bytes(length))
 
     def test_uid_values_are_not_restricted(self):
@@ -48,7 +48,7 @@ class HostCall(unittest.TestCase):
         for length in NO_SIZES:
             for before in (NoRecord("not looked at"), Tag(round=Round(3, 4)).record):
                 memory = bytearray(b"\xAA" * length)
-                self.assertEqual(host.factory(before, memory, UID), (1, 0, before), length)
+                self.assertEqual(host.factory(before, memory, UID), (1, 0, before, None), length)
                 self.assertEqual(memory, b"\xAA" * length)
 
 

@@ -50,6 +50,10 @@ class Worked(unittest.TestCase):
                        f"0 3 0078F0 {'00' * 72} F078 1234", f"0 3 0078F0 {record} F079 1234",
                        f"0 3 0078F0 {record} F078 1235", "ok", "?", ""):
             self.assertNotEqual(faults(step, answer), [], answer)
+        step = Step(b"LOAD ..", "", "5d:15")
+        self.assertEqual(faults(step, f"5d:15 0 - {record} F078 1234"), [])
+        for number in ("5", "5d", "5d:17", "5c:15", "5D:15", "5d:15:", "5d:015", "0"):
+            self.assertNotEqual(faults(step, f"{number} 0 - {record} F078 1234"), [], number)
         step = Step(b"SEARCH 1 ..", "F0C8D601042302E0", room="1234", requests=1)
         self.assertEqual(faults(step, "0 1 F0C8D601042302E0 1234"), [])
         for answer in ("6 1 F0C8D601042302E0 1234", "0 2 F0C8D601042302E0 1234", "0 1 - 1234", "0 1 F0C8D601042302E0 1235",

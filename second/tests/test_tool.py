@@ -9,9 +9,11 @@ import sys
 import tempfile
 import unittest
 
+from generator import scenes
 from generator.dice import Dice
-from outside import (tool_factory, tool_files, tool_interrupts, tool_limits, tool_meanwhile, tool_pages,
-                     tool_sessions, tool_show, tool_tags, tool_tray, tool_tray_files, tool_words)
+from outside import (tool_factory, tool_faults, tool_files, tool_header, tool_interrupts, tool_limits, tool_meanwhile,
+                     tool_pages, tool_sessions, tool_show, tool_tags, tool_tray, tool_tray_files, tool_typed,
+                     tool_words)
 from outside.bad_input import Settings
 from outside.tool_runs import KEPT, Trial, changes, said, snapshot, wrong_words
 from tagmodel import rights
@@ -68,7 +70,7 @@ def faults(command, *trials, limit=60):
 
 
 def broken(trial):
-    """Byte 51 of an image is not 0: number 5."""
+    """Byte 51 of an image is not 0: number 5e."""
     image = tool_show.altered(tool_tags.any_image(Dice(1), SMALL), {51: 1})
     tool_words.refused_image(trial, "broken", image)
 
@@ -76,6 +78,22 @@ def broken(trial):
 def too_long(trial):
     """Number 4."""
     tool_words.refused_image(trial, "long", bytes(20000))
+
+
+def typed(*names):
+    """A trial of some headers typed wrong, by what was mistyped."""
+    def run(trial):
+        for entry in tool_typed.TYPED:
+            if entry[0] in names:
+                tool_header.typed_header(trial, *entry)
+    return run
+
+
+def listed(trial):
+    """A listing that is written out, and one with a reserved byte at fault, which has a row of its own."""
+    image = tool_header.typed_image(64, tool_typed.LISTED_RIGHT[0])
+    tool_header.list_one(trial, "by hand", image, tool_typed.LISTED_RIGHT[1].encode("ascii"))
+    tool_header.list_one(trial, "byte 55", tool_show.altered(tool_tags.any_image(Dice(7), SMALL), {55: 1}))
 
 
 def factory(trial):
@@ -103,8 +121,10 @@ def words(trial):
     """A wrong word, a command that is none, and no words."""
     trial.put("tag.img", tool_tags.factory_image(SMALL))
     trial.refuses("an option", ["run", "tag.img", "--on"], wrong_words("run", "--on"))
-    trial.refuses("a word too many", ["show", "tag.img", "b.img"], wrong_words("show", "'b.img'"))
-    for command, rest in (("factory", ["16", tool_tags.SESSION_UID]), ("show", []), ("run", ["tag.img", "--out"])):
+    for command in ("show", "header"):
+        trial.refuses("a word too many", [command, "tag.img", "b.img"], wrong_words(command, "'b.img'"))
+    for command, rest in (("factory", ["16", tool_tags.SESSION_UID]), ("show", []), ("header", []),
+                          ("run", ["tag.img", "--out"])):
         trial.refuses("no file's name", [command, *rest, "-"], wrong_words(command, "-"))
     tool_words.wrong_command(trial, "shows")
     tool_words.no_words(trial)
@@ -242,6 +262,11 @@ class Model(unittest.TestCase):
     def test_refusals(self):
         self.no_fault(broken, too_long, words)
 
+    def test_headers(self):
+        self.no_fault(listed, tool_header.unwritable, tool_header.one_stream,
+                      typed("16 for the mark of 16 Kbit", "the digits of 09h", "the E of the larger", "two pairs",
+                            "one value is left", "the last end left at 00h", "lock byte and a reserved byte"))
+
     def test_files(self):
         self.no_fault(not_a_place, lambda trial: tool_files.unreadable_file(trial, "none/tag.img", errno.ENOENT), link,
                       tool_files.pipes, small_files, other_files, no_reader, tool_meanwhile.meanwhile)
@@ -289,8 +314,9 @@ class Wrong(unittest.TestCase):
         return printed
 
     def test_a_tool_that_does_nothing(self):
-        for run in (factory, show, one_session, broken, too_long, words, link, not_a_place, small_files, interrupt,
-                    line_by_line, ignored, no_reader, tool_files.pipes, other_files, tool_files.to_streams,
+        for run in (factory, show, listed, typed("two pairs"), tool_header.other_lengths, tool_header.unwritable,
+                    tool_header.one_stream, one_session, broken, too_long, words, link, not_a_place, small_files,
+                    interrupt, line_by_line, ignored, no_reader, tool_files.pipes, other_files, tool_files.to_streams,
                     tool_meanwhile.no_image_any_more, no_forms, tool_tray.printed_example, collisions, equal_uids,
                     many_tags, crlf, wrong_line, text_like_an_image, mistyped, tool_tray.twice, tool_tray.equal_uids,
                     tool_tray_files.from_a_terminal, tool_tray_files.typed_and_refused,
@@ -305,12 +331,23 @@ class Wrong(unittest.TestCase):
     def test_answers(self):
         self.assertIn("standard output: expected 22 bytes, '1 -\n2 0078F0", self.found("one-digit", one_session))
         self.assertIn("answer to b'ON'", self.found("late-answers", line_by_line, limit=1))
-        self.assertIn("refused 5: image header breaks", self.found("refusals", broken))
-        self.assertIn("it has over 8,256 bytes", self.found("refusals", too_long))
+        self.assertIn("it has over 8,256 bytes", self.found("lengths", too_long))
         self.assertIn("the first is line 3", self.found("line-numbers", no_forms))
         self.assertIn("no image is written", self.found("one-line", no_reader))
         self.assertIn("file status", self.found("closed-pipe", no_reader))
         self.assertIn("no file's name", self.found("dash", words))
+
+    def test_faults(self):
+        self.assertIn("refused 5e: reserved byte, at place 51", self.found("fault-names", broken))
+        self.assertIn("refused 5e: reserved byte, at place 51", self.found("places-from-1", broken))
+        self.assertIn("refused 5b: lock byte", self.found("highest-fault", typed("lock byte and a reserved byte")))
+        self.assertIn("at place 15: ENDA2", self.found("earlier-end", typed("two pairs")))
+        self.assertIn("ENDA2 is 0Bh (11)", self.found("ends-in-hex", typed("two pairs")))
+
+    def test_what_is_listed(self):
+        self.assertIn("passwords shown: expected [], found [0, 1, 2, 3]", self.found("passwords-listed", listed))
+        self.assertIn("51 to 54", self.found("no-row-of-its-own", listed))
+        self.assertIn("header, byte 55: standard output", self.found("no-row-of-its-own", listed))
 
     def test_what_is_shown(self):
         self.assertIn("password 2", self.found("another-area", show))
@@ -329,7 +366,7 @@ class Wrong(unittest.TestCase):
         self.assertIn("status: expected 1, found 0", self.found("tray-of-256", many_tags))
         self.assertIn("line 258: a UID", self.found("tray-without-end", many_tags))
         self.assertIn("no end within the limit", self.found("tray-without-end", tool_tray.endless, limit=1))
-        self.assertIn("refused 5: image header", self.found("images-by-length", text_like_an_image))
+        self.assertIn("refused 5a: size mark", self.found("images-by-length", text_like_an_image))
         self.assertIn("line 1: a UID", self.found("carriage-returns", crlf))
         self.assertIn("line 4: a UID", self.found("filled-lines", wrong_line))
 
@@ -387,6 +424,30 @@ class Expected(unittest.TestCase):
             "Area 3    no blocks, protection 00, no password: read always, write always",
             "Area 4    no blocks, protection 00, no password: read always, write always",
             "memory    not empty, other than 00h in 2 of 512 blocks, first in block 0", ""])
+
+    def test_faults(self):
+        """Every image that the model refuses has a fault, and no other: each byte alone, and ends with each other."""
+        dice = Dice(4)
+        for size in (SMALL, LARGE):
+            sound = tool_tags.factory_image(size)
+            images = [tool_show.altered(sound, {place: value})
+                      for place in range(64) for value in (0, 1, 2, 15, 16, 31, 32, 63, 64, 255)]
+            images += [tool_show.altered(sound, {13: dice.below(72), 15: dice.below(72), 17: dice.below(72)})
+                       for _ in range(300)]
+            for broken_header in scenes.HEADER_BREAKS:
+                images.append(bytearray(tool_tags.any_image(dice, size)))
+                broken_header(images[-1])
+            for image in images:
+                found = tool_faults.fault_of(image)
+                self.assertEqual(found is not None, bool(tool_tags.refusal(image)), image[:64].hex())
+
+    def test_typed_headers(self):
+        """What is worked from the documents is what is written by hand, number and place, name and words."""
+        for what, kbit, text, rest, words in tool_typed.TYPED:
+            image = tool_header.typed_image(kbit, text, rest)
+            self.assertEqual(tool_faults.fault_line(image, tool_faults.fault_of(image)), words, what)
+        for kbit, (text, listing) in ((64, tool_typed.LISTED_RIGHT), (16, tool_typed.LISTED_WRONG)):
+            self.assertEqual(tool_header.listed(tool_header.typed_image(kbit, text)).decode("ascii"), listing)
 
     def test_picture(self):
         """Slot Bh hears three, of which 1ABh and 2ABh have the next group in common. CRCs are worked bit by bit."""

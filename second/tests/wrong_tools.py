@@ -2,6 +2,7 @@
 
 import io
 import os
+import re
 import shutil
 import signal
 import sys
@@ -15,6 +16,7 @@ WAITING = []
 look_at, write_file = model_tool.look_at, model_tool.write_file
 answered, area_text, no_form_text = model_tool.answered, model_tool.area_text, model_tool.no_form_text
 request_numbers = model_tool.request_numbers
+fault_place, header_rows, refusal_text = model_tool.fault_place, model_tool.header_rows, model_tool.refusal_text
 
 
 def write_in_place(path, contents):
@@ -67,6 +69,23 @@ def show_another_area(record, blocks, area):
 def show_passwords(record, blocks, area):
     """A password's value is told."""
     return f"{area_text(record, blocks, area)} {record.passwords[area - 1]:016X}"
+
+
+def highest_fault(image):
+    """Of two bytes that are wrong the higher is named."""
+    sound = model_tool.sound_image(len(image))
+    return max(place for place in range(64) if model_tool.is_refused(sound[:place] + image[place:]))
+
+
+def earlier_of_a_pair(image):
+    """A wrong pair is charged to the earlier byte."""
+    place = fault_place(image)
+    return place - 2 if place in (15, 17) and image[place] <= (63, 255)[image[0] - 1] else place
+
+
+def count_places_from_1(image):
+    """The first byte is at place 1."""
+    return re.sub(r"place (\d+)", lambda found: f"place {int(found[1]) + 1}", refusal_text(image))
 
 
 def end_quietly(number, frame):
@@ -143,7 +162,14 @@ WRONG = {
     "lock-names": ("LOCKS", ("block 0", "block 1", "AFI", "DSFID", "configuration")),
     "dash": ("NOT_IMAGES", ()),
     "group": ("keep_owner", keep_permissions),
-    "refusals": ("REFUSALS", {4: "the image has a wrong length", 5: "the image is broken"}),
+    "lengths": ("NO_LENGTH", "the image has a wrong length"),
+    "fault-names": ("FAULTS", dict.fromkeys(model_tool.FAULTS, "image header breaks a rule")),
+    "highest-fault": ("fault_place", highest_fault),
+    "earlier-end": ("fault_place", earlier_of_a_pair),
+    "places-from-1": ("refusal_text", count_places_from_1),
+    "ends-in-hex": ("both", lambda end: f"{end:02X}h"),
+    "passwords-listed": ("row_bytes", lambda image, place, end: image[place:end].hex().upper()),
+    "no-row-of-its-own": ("header_rows", lambda image, fault: header_rows(image, 64)),
     "uids-as-numbers": ("uid_lines", lambda found: [f"{uid:016X}" for uid in sorted(found)]),
     "uids-lowest-first": ("uid_lines", lambda found: [uid.to_bytes(8, "little").hex().upper() for uid in found]),
     "tray-of-256": ("ENOUGH_TAGS", 256),

@@ -4,7 +4,7 @@ Requests are given as the documents print them, without CRC. An answer whose CRC
 a document prints is given whole; to the others `framed` adds the CRC of 01.
 """
 
-from typing import Mapping, NamedTuple, Optional, Tuple
+from typing import Mapping, NamedTuple, Optional, Tuple, Union
 
 UID = "F0C8D601042302E0"  # 001: E002230401D6C8F0, lowest byte first
 OTHER_UID = "F1C8D601042302E0"
@@ -39,14 +39,15 @@ SMALL, LARGE = Size(2048, 1, 63), Size(8192, 2, 255)
 class Step(NamedTuple):
     """A line and what its answer must say: `ok` if `answer` is None, else a call's answer in hex.
 
-    `record` names bytes of the 72 by their place; `memory` and `room` are the CRC of their bytes, high byte first
-    (for SAVE the image stands in place of the room, for SEARCH the list). For SEARCH `answer` has the UIDs found and
-    `requests` is the number of requests; for the others it is None.
+    `number` is as it is printed, text where it has a letter and a place. `record` names bytes of the 72 by their place;
+    `memory` and `room` are the CRC of their bytes, high byte first (for SAVE the image stands in place of the room, for
+    SEARCH the list). For SEARCH `answer` has the UIDs found and `requests` is the number of requests; for the others it
+    is None.
     """
 
     line: bytes
     answer: Optional[str] = None
-    number: int = 0
+    number: Union[int, str] = 0
     record: Mapping[int, int] = {}
     memory: Optional[str] = None
     room: Optional[str] = None

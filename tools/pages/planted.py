@@ -54,7 +54,7 @@ PLANTS = (
     ("a line for two functions", DECISIONS, r"(commands\.rt:\d+), \d+", r"\1"),
     ("a line of code", DECISIONS, r"(commands\.rt:\d+, )\d+", r"\g<1>2"),
     ("a file of a line", DECISIONS, r"src/places\.rt:", "src/place.rt:"),
-    ("a law", DECISIONS, r"`one-refusal`", "`no-refusal`"),
+    ("a law", DECISIONS, r"`one-fault`", "`no-fault`"),
     ("a definition's file", DECISIONS, r"\(crates/tag/specs/Work\.antt\)", "(crates/tag/specs/Step.antt)"),
     ("a starred case", DECISIONS, r"Starred cases 6", "Starred cases 16"),
     ("a range of starred cases", DECISIONS, r"Starred cases 6 and 7", "Starred cases 6 to 17"),

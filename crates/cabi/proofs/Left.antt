@@ -2,37 +2,44 @@
 -- Assumes nothing.
 use Prim.Native.Nat.{ℕ, _+_, _≤_}
 use native.Mathlib.Omega.{arith}
-use mathlib.Core.Path.{_≡_, refl, ap}
+use mathlib.Core.Path.{_≡_, refl, sym, ap, _∙_}
 use mathlib.Core.Bool.{true, false}
 use mathlib.Core.List.{List}
-use lib.ListN.{length}
+use lib.ListN.{length, drop}
 use lib.Dec.{ltb, eqb}
 use borrow.Author.Tests.{le-ltb, ltb-false, eqb-false, ne-eqb}
 use Rattle.rights.proofs.Cases.{if-one}
 use Rattle.record.specs.declared.Kind.{Kind}
 use Rattle.record.specs.declared.Refusal.{Refusal}
 use Rattle.record.specs.declared.Refusal.the-variants as refusal
-use Rattle.record.specs.declared.Outcome.{Outcome}
+use Rattle.record.specs.declared.Tag.{Tag}
 use Rattle.tag.specs.Step.{eventOf, step}
 use Rattle.tag.specs.Rules.{blocksOf}
-use Rattle.tag.specs.Image.{imageOf}
-use Rattle.tag.specs.Host.{numberOf, isMemory, fitsImage, isImage, eventDone, LoadGives}
+use Rattle.tag.specs.Image.{tagIn, headerRule, imageOf}
+use Rattle.tag.specs.Fault.{Fault, headerFault}
+use Rattle.tag.specs.Host.{numberOf, placeOf, faultOf, isMemory, fitsImage, isImage, eventDone, loadGiven}
+use Rattle.tag.proofs.Faults.{some-fault}
 use Rattle.tag.proofs.OnlyFrames.{NoFrame, on, off, end, lasts}
 use Rattle.step.specs.declared.Said.{Said}
 use Rattle.step.specs.Gives.{Gives}
 use Rattle.tray.specs.Tray.{SearchGiven, given, searchGiven}
 use Rattle.packed.specs.Bytes.{recordIn, isRecord, recordOf}
 use Rattle.packed.specs.Parts.{PassingLeft}
-use Rattle.cabi.specs.Calls.{resultOf, kindIn, EventLeft, eventLeft, EventLeaves, LoadLeft, FillLeaves, loadLeft, LoadLeaves, SaveLeft, saveLeft, SaveLeaves}
+use Rattle.packed.specs.Result.{resultOf}
+use Rattle.cabi.specs.Calls.{kindIn, EventLeft, eventLeft, EventLeaves, LoadLeft, FillLeaves, loadLeft, LoadLeaves, SaveLeft, saveLeft, SaveLeaves}
 use Rattle.cabi.specs.Calls.{searchLeft, SearchLeaves}
 
-pub number-most : (r : Refusal) → numberOf r ≤ 18
+pub number-most : (r : Refusal) → numberOf r ≤ 0x5E
 number-most refusal.None = omega arith
 number-most refusal.Memory = omega arith
 number-most refusal.Room = omega arith
 number-most refusal.Record = omega arith
 number-most refusal.Image = omega arith
-number-most refusal.Header = omega arith
+number-most (refusal.Mark place) = omega arith
+number-most (refusal.Lock place) = omega arith
+number-most (refusal.Protection place) = omega arith
+number-most (refusal.End place) = omega arith
+number-most (refusal.Reserved place) = omega arith
 number-most refusal.Tags = omega arith
 number-most refusal.Equal = omega arith
 number-most refusal.Small = omega arith
@@ -50,7 +57,7 @@ module _ {k : ℕ} {frame r m x r′ m′ x′ : List ℕ} where
   unfolding eventLeft
   event-taken s a b d e g w =
       let z = eventDone (recordIn r) (eventOf (kindIn k) frame) m x in
-      event-by (record { result = resultOf 0 (z .length); bytes = recordOf (length m) (z .tag); memory = z .memory; room = z .room })
+      event-by (record { result = resultOf 0 0 (z .length); bytes = recordOf (length m) (z .tag); memory = z .memory; room = z .room })
       (rw (a, le-ltb _ _ b, d, e))
       (rw (g .result) (omega arith))
       (rw (w, g .result))
@@ -77,17 +84,22 @@ passing-taken {k} {frame} {r} {m} s a b d e other g w =
     let header = lasts (length m) (recordIn r) m (no-frame k frame e other) .header in
     event-taken s a b d e g (w .whole (length m) (blocksOf m) d (rw (g .result) header))
 
-module _ (i r m : List ℕ) {m′ : List ℕ} (o : Outcome) (g : LoadGives (recordIn r) i m m′ o) where
-  pub load-refused : {n : ℕ} → (numberOf (o .refusal) ≡ 0 → ⊥) → n ≡ resultOf (numberOf (o .refusal)) 0 → LoadLeaves i r m r m′ n
-  unfolding loadLeft
-  load-refused h p = record { result = rw (← g .number) p; bytes = rw (← g .number, ne-eqb _ _ h) refl; memory = g .memory }
-
-  pub load-taken : {r′ : List ℕ} → numberOf (o .refusal) ≡ 0 → r′ ≡ recordOf (length m) (o .tag) → LoadLeaves i r m r′ m′ 0
-  unfolding loadLeft
-  load-taken h p = record { result = rw (← g .number, h) refl; bytes = rw (← g .number, h, ← g .tag) p; memory = g .memory }
-
 pub fill-by : {h : LoadLeft} {r′ m′ : List ℕ} {n : ℕ} (g : LoadLeft) → h ≡ g → n ≡ g .result → r′ ≡ g .bytes → m′ ≡ g .memory → FillLeaves h r′ m′ n
 fill-by g h p q s = record { result = rw h p; bytes = rw h q; memory = rw h s }
+
+-- of loading: a header that is wrong, and an image that is loaded
+module _ (i r m : List ℕ) (a : isImage i ≡ true) (b : fitsImage m i ≡ true) where
+  pub load-refused : {n : ℕ} (f : Refusal) → headerRule (blocksOf m) i ≡ false → faultOf f ≡ headerFault (blocksOf m) i
+      → n ≡ resultOf (placeOf f) (numberOf f) 0 → LoadLeaves i r m r m n
+  unfolding loadLeft loadGiven
+  load-refused f wrong h p =
+      let some : numberOf f ≡ 0 → ⊥ = λ e. some-fault (blocksOf m) i wrong (sym (ap (λ (g : Fault). g .number) h) ∙ e) in
+      fill-by (record { result = resultOf (placeOf f) (numberOf f) 0; bytes = r; memory = m }) (rw (a, b, wrong, ← h, ne-eqb (numberOf f) 0 some)) p refl refl
+
+  pub load-taken : {t : Tag} {r′ m′ : List ℕ} → headerRule (blocksOf m) i ≡ true → (t ≡ tagIn i) × (m′ ≡ drop 64 i) → r′ ≡ recordOf (length m) t
+      → LoadLeaves i r m r′ m′ 0
+  unfolding loadLeft loadGiven
+  load-taken right h p = fill-by (record { result = 0; bytes = recordOf (length m) (tagIn i); memory = drop 64 i }) (rw (a, b, right)) refl (rw (← h .0) p) (h .1)
 
 module _ {r m i i′ : List ℕ} where
   pub save-by : {n : ℕ} (g : SaveLeft) → saveLeft r m i ≡ g → n ≡ g .result → i′ ≡ g .image → SaveLeaves r m i i′ n
@@ -98,7 +110,10 @@ module _ {r m i i′ : List ℕ} where
   unfolding saveLeft
   save-taken a b d h = record { result = rw (a, b, d, h .0) (omega arith); image = rw (a, b, d) (h .1) }
 
-pub search-by : {uids x x′ : List ℕ} {number requests : ℕ} → given number requests x′ ≡ searchGiven uids x
-    → SearchLeaves uids x x′ (resultOf number requests)
+pub search-by : {uids x x′ : List ℕ} {n : ℕ} (number requests : ℕ) → given number requests x′ ≡ searchGiven uids x → n ≡ resultOf 0 number requests
+    → SearchLeaves uids x x′ n
 unfolding searchLeft
-search-by e = record { result = ap (λ (g : SearchGiven). resultOf (g .number) (g .requests)) e; list = ap (λ (g : SearchGiven). g .list) e }
+search-by number requests e h = record {
+  result = h ∙ ap (λ (g : SearchGiven). resultOf 0 (g .number) (g .requests)) e;
+  list = ap (λ (g : SearchGiven). g .list) e;
+}

@@ -1,3 +1,4 @@
 mod Left
 pub mod OnlyOne
 pub mod Same
+pub mod Back

@@ -14,12 +14,13 @@ use Rattle.tag.specs.Image.{headerLength, imageOf}
 use Rattle.tag.specs.Host.{isMemory, fitsImage, leastRoom, isImage, EventGiven, eventRefused, eventDone, eventGiven, SaveGiven, saveRefused, saveGiven}
 use Rattle.tag.proofs.Headers.{Lasting}
 use Rattle.packed.specs.Bytes.{recordOf}
+use Rattle.packed.specs.Result.{resultOf}
 use Rattle.packed.proofs.Again.{record-again, rule-again}
-use Rattle.cabi.specs.Calls.{resultOf, kindIn, EventLeft, eventStays, eventLeft, SaveLeft, saveStays, saveLeft}
+use Rattle.cabi.specs.Calls.{kindIn, EventLeft, eventStays, eventLeft, SaveLeft, saveStays, saveLeft}
 
 -- what the host's call gives, as the boundary shows it
 abbrev pub shown : ℕ → EventGiven → EventLeft
-shown size g = record { result = resultOf (g .number) (g .length); bytes = recordOf size (g .tag); memory = g .memory; room = g .room }
+shown size g = record { result = resultOf 0 (g .number) (g .length); bytes = recordOf size (g .tag); memory = g .memory; room = g .room }
 
 pub event-same : (k : ℕ) (frame : List ℕ) (t : Tag) (m x : List ℕ) → Lasting t → ltb 3 k ≡ false
     → eventLeft k frame (recordOf (length m) t) m x ≡ shown (length m) (eventGiven t (eventOf (kindIn k) frame) m x)
@@ -41,7 +42,7 @@ event-same k frame t m x l h =
     go true false true = refl
 
 abbrev pub shown-save : SaveGiven → SaveLeft
-shown-save g = record { result = resultOf (g .number) (g .length); image = g .image }
+shown-save g = record { result = resultOf 0 (g .number) (g .length); image = g .image }
 
 pub save-same : (t : Tag) (m i : List ℕ) → Lasting t → saveLeft (recordOf (length m) t) m i ≡ shown-save (saveGiven t m i)
 unfolding saveLeft saveGiven

@@ -1,6 +1,6 @@
 -- The calls of the C boundary: what each returns, and every byte that it leaves, for every input whatever.
 -- Assumes nothing.
-use Prim.Native.Nat.{ℕ, _+_, _*_}
+use Prim.Native.Nat.{ℕ, _+_}
 use mathlib.Core.Bool.{not}
 use mathlib.Core.Path.{_≡_}
 use mathlib.Core.List.{List}
@@ -14,10 +14,7 @@ use Rattle.tag.specs.Image.{headerLength, imageOf}
 use Rattle.tag.specs.Host.{isMemory, fitsImage, leastRoom, isImage, eventDone, LoadGiven, loadGiven, factoryGiven}
 use Rattle.tray.specs.Tray.{searchGiven}
 use Rattle.packed.specs.Bytes.{recordIn, isRecord, recordOf}
-
--- the refusal's number times 2^32, plus the length l
-abbrev pub resultOf : ℕ → ℕ → ℕ
-resultOf number l = number * 0x100000000 + l
+use Rattle.packed.specs.Result.{resultOf}
 
 -- ---- an event
 
@@ -34,7 +31,7 @@ pub record EventLeft : Type 0 where
 
 -- a number, length 0, and all as it was
 abbrev pub eventStays : ℕ → List ℕ → List ℕ → List ℕ → EventLeft
-eventStays number r m x = record { result = resultOf number 0; bytes = r; memory = m; room = x }
+eventStays number r m x = record { result = resultOf 0 number 0; bytes = r; memory = m; room = x }
 
 -- 01: "An event checks 1, 2, 3 in that order." Another kind is no event: after the checks, silence and nothing changed
 unfoldable pub eventLeft : ℕ → List ℕ → List ℕ → List ℕ → List ℕ → EventLeft
@@ -44,7 +41,7 @@ eventLeft k frame r m x =
     if not (isRecord m r) then eventStays 3 r m x else
     if ltb 3 k then eventStays 0 r m x else
     let g = eventDone (recordIn r) (eventOf (kindIn k) frame) m x in
-    record { result = resultOf 0 (g .length); bytes = recordOf (length m) (g .tag); memory = g .memory; room = g .room }
+    record { result = resultOf 0 0 (g .length); bytes = recordOf (length m) (g .tag); memory = g .memory; room = g .room }
 
 -- a call at entry (k, frame, r, m, x) that leaves r′, m′ and x′ and returns n
 pub record EventLeaves (k : ℕ) (frame r m x r′ m′ x′ : List ℕ) (n : ℕ) : Type 0 where
@@ -72,7 +69,7 @@ unlessRefused number new old = if eqb number 0 then new else old
 
 -- as the host's call, whose length is 0, and which does not look at the record that was there
 abbrev pub filled : LoadGiven → List ℕ → List ℕ → LoadLeft
-filled g r m = record { result = resultOf (g .number) 0; bytes = unlessRefused (g .number) (recordOf (length m) (g .tag)) r; memory = g .memory }
+filled g r m = record { result = resultOf (g .place) (g .number) 0; bytes = unlessRefused (g .number) (recordOf (length m) (g .tag)) r; memory = g .memory }
 
 unfoldable pub loadLeft : List ℕ → List ℕ → List ℕ → LoadLeft
 loadLeft i r m = filled (loadGiven (recordIn r) i m) r m
@@ -94,7 +91,7 @@ pub record SaveLeft : Type 0 where
   pub image : List ℕ
 
 abbrev pub saveStays : ℕ → List ℕ → SaveLeft
-saveStays number i = record { result = resultOf number 0; image = i }
+saveStays number i = record { result = resultOf 0 number 0; image = i }
 
 -- "SAVE 4, 1 or 3 in 01's order"
 unfoldable pub saveLeft : List ℕ → List ℕ → List ℕ → SaveLeft
@@ -102,7 +99,7 @@ saveLeft r m i =
     if not (isImage i) then saveStays 4 i else
     if not (fitsImage m i) then saveStays 1 i else
     if not (isRecord m r) then saveStays 3 i else
-    record { result = resultOf 0 (headerLength + length m); image = imageOf (recordIn r) m }
+    record { result = resultOf 0 0 (headerLength + length m); image = imageOf (recordIn r) m }
 
 pub record SaveLeaves (r m i i′ : List ℕ) (n : ℕ) : Type 0 where
   pub result : n ≡ saveLeft r m i .result
@@ -118,7 +115,7 @@ pub record SearchLeft : Type 0 where
 unfoldable pub searchLeft : List ℕ → List ℕ → SearchLeft
 searchLeft uids x =
     let g = searchGiven uids x in
-    record { result = resultOf (g .number) (g .requests); list = g .list }
+    record { result = resultOf 0 (g .number) (g .requests); list = g .list }
 
 pub record SearchLeaves (uids x x′ : List ℕ) (n : ℕ) : Type 0 where
   pub result : n ≡ searchLeft uids x .result

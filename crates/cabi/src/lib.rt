@@ -5,6 +5,9 @@ use host::is_image;
 use host::is_memory;
 use host::last_end;
 use image::reading::factory;
+use image::reading::load;
+use image::rules::header_fault;
+use image::rules::header_right;
 use packed::RECORD;
 use packed::is_record;
 use packed::read_record;
@@ -14,10 +17,11 @@ use put::fill;
 use record::Kind;
 use record::Refusal;
 ghost use mathlib.Core.Path.{_≡_};
-ghost use Rattle.tag.specs.Host.{numberOf};
-ghost use Rattle.cabi.specs.Calls.{resultOf, kindIn, EventLeaves, LoadLeaves, SaveLeaves, FactoryLeaves, SearchLeaves};
+ghost use Rattle.tag.specs.Host.{numberOf, placeOf};
+ghost use Rattle.packed.specs.Result.{resultOf};
+ghost use Rattle.cabi.specs.Calls.{kindIn, EventLeaves, LoadLeaves, SaveLeaves, FactoryLeaves, SearchLeaves};
 
-// The numbers of 01 and 02, 0 for none
+// The numbers of 01 and 02, 0 for none; 5a to 5e are 5Ah to 5Eh
 fn number(r: Refusal) -> u64
     ensures { λ n. ⌜ n ≡ numberOf r ⌝ }
 {
@@ -27,18 +31,43 @@ fn number(r: Refusal) -> u64
         Refusal::Room => 2,
         Refusal::Record => 3,
         Refusal::Image => 4,
-        Refusal::Header => 5,
+        Refusal::Mark(_) => 0x5A,
+        Refusal::Lock(_) => 0x5B,
+        Refusal::Protection(_) => 0x5C,
+        Refusal::End(_) => 0x5D,
+        Refusal::Reserved(_) => 0x5E,
         Refusal::Tags => 6,
         Refusal::Equal => 7,
         Refusal::Small => 18,
     }
 }
 
-// The refusal's number times 2^32, plus the length, which is 0 where a call is refused
-fn refused(r: Refusal) -> u64
-    ensures { λ n. ⌜ n ≡ resultOf (numberOf r) 0 ⌝ }
+// 02: ".. with the lowest offending byte's place", 0 for a refusal that has none
+fn place(r: Refusal) -> u8
+    ensures { λ n. ⌜ n ≡ placeOf r ⌝ }
 {
-    number(r) * 0x1_0000_0000
+    match r {
+        Refusal::None => 0,
+        Refusal::Memory => 0,
+        Refusal::Room => 0,
+        Refusal::Record => 0,
+        Refusal::Image => 0,
+        Refusal::Mark(at) => at,
+        Refusal::Lock(at) => at,
+        Refusal::Protection(at) => at,
+        Refusal::End(at) => at,
+        Refusal::Reserved(at) => at,
+        Refusal::Tags => 0,
+        Refusal::Equal => 0,
+        Refusal::Small => 0,
+    }
+}
+
+// "place × 2^48 + number × 2^32 + length", which is 0 where a call is refused
+fn refused(r: Refusal) -> u64
+    ensures { λ n. ⌜ n ≡ resultOf (placeOf r) (numberOf r) 0 ⌝ }
+{
+    place(r) as u64 * 0x1_0000_0000_0000 + number(r) * 0x1_0000_0000
 }
 
 // The kinds: 0 on, 1 off, 2 end of frame, 3 request
@@ -98,13 +127,18 @@ pub extern "C" fn uistermo_load(bytes: &mut [u8; RECORD], image: &[u8], memory: 
     ensures { λ n. ⌜ LoadLeaves (now (image .entry)) (now (bytes .entry)) (now (memory .entry)) (now (bytes .exit)) (now (memory .exit)) n ⌝ }
 {
     let size = memory.len();
-    let o = host::load(read_record(bytes), image, memory);
-    let refusal = o.refusal;
-    let tag = o.tag;
-    if number(refusal) != 0 {
-        return refused(refusal);
+    let length = image.len();
+    if !is_image(length) {
+        return refused(Refusal::Image);
     }
-    write_record(tag, size, bytes);
+    if !fits_image(size, length) {
+        return refused(Refusal::Memory);
+    }
+    let e = last_end(size);
+    if !header_right(image, e) {
+        return refused(header_fault(image, e));
+    }
+    write_record(load(image, memory), size, bytes);
     0
 }
 

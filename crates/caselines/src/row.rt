@@ -7,12 +7,18 @@ ghost use mathlib.Core.Path.{_≡_};
 ghost use lib.ListN.{length};
 ghost use Rattle.put.specs.Put.{Put};
 ghost use Rattle.text.specs.Text.{decimalOf};
+ghost use Rattle.packed.specs.Result.{refusalIn};
 ghost use Rattle.caselines.specs.Limits.{entriesMost};
 ghost use Rattle.caselines.specs.Entries.{entryBytes};
 ghost use Rattle.caselines.specs.Row.{listText, searchRowText, searchText, SuitsLists, SuitsSearch};
-ghost use Rattle.caselines.specs.Row.{shown, field, crcHigh, numbersText, pairText, sumsText, restText, rowText, callText, Suits};
+ghost use Rattle.caselines.specs.Row.{shown, field, crcHigh, faultText, isLettered, columnText, numbersText, pairText, sumsText, restText};
+ghost use Rattle.caselines.specs.Row.{rowText, callText, Suits};
 
 const SPACE: u8 = 0x20;
+
+const FIVE: u8 = 0x35;
+
+const COLON: u8 = 0x3A;
 
 const NEWLINE: u8 = 0x0A;
 
@@ -47,12 +53,48 @@ fn crc_high(bytes: &[u8]) -> [u8; 2]
     [(c / 256) as u8, (c % 256) as u8]
 }
 
-fn put_numbers(number: u64, count: u64, out: &mut [u8]) -> usize
-    requires { ⌜ length (numbersText number count) ≤ length (now out) ⌝ }
-    ensures { λ r. ⌜ Put (numbersText number count) (now (out .entry)) (now (out .exit)) r ⌝ }
+// "`5a:0`, `5d:15`", and a space.
+fn put_fault(letter: u8, place: u64, out: &mut [u8]) -> usize
+    requires { ⌜ length (field 0x20 (faultText letter place)) ≤ length (now out) ⌝ }
+    ensures { λ r. ⌜ Put (field 0x20 (faultText letter place)) (now (out .entry)) (now (out .exit)) r ⌝ }
 {
-    let at = put_number(number, out);
-    at + put_number(count, &mut out[at..])
+    let first = [FIVE, letter, COLON];
+    let at = put::copy(&first, out);
+    at + put_number(place, &mut out[at..])
+}
+
+// 5a to 5e, as a result has them.
+fn is_lettered(number: u64) -> bool
+    ensures { λ r. ⌜ r ≡ isLettered number ⌝ }
+{
+    (0x5A <= number) & (number <= 0x5E)
+}
+
+// A number, 5a to 5e "with their place, also where it is 0", "all others have none"; and a space.
+fn put_column(number: u64, place: u64, out: &mut [u8]) -> usize
+    requires { ⌜ length (field 0x20 (columnText number place)) ≤ length (now out) ⌝ }
+    ensures { λ r. ⌜ Put (field 0x20 (columnText number place)) (now (out .entry)) (now (out .exit)) r ⌝ }
+{
+    if !is_lettered(number) {
+        return put_number(number, out);
+    }
+    put_fault(0x61 + (number - 0x5A) as u8, place, out)
+}
+
+// The number of a result, in 16 bits of it.
+fn refusal_in(result: u64) -> u64
+    ensures { λ r. ⌜ r ≡ refusalIn result ⌝ }
+{
+    result / 0x1_0000_0000 % 0x1_0000
+}
+
+// Number, with its place, and length of a result.
+fn put_numbers(result: u64, out: &mut [u8]) -> usize
+    requires { ⌜ length (numbersText result) ≤ length (now out) ⌝ }
+    ensures { λ r. ⌜ Put (numbersText result) (now (out .entry)) (now (out .exit)) r ⌝ }
+{
+    let at = put_column(refusal_in(result), result / 0x1_0000_0000_0000, out);
+    at + put_number(result % 0x1_0000_0000, &mut out[at..])
 }
 
 fn put_pair(a: &[u8], b: &[u8], end: u8, out: &mut [u8]) -> usize
@@ -83,19 +125,18 @@ fn put_rest(answer: &[u8], tag: &[u8], memory: &[u8], room: &[u8], out: &mut [u8
 
 // The whole line. `tag` is the record's bytes.
 pub fn put_row(
-    number: u64,
-    count: u64,
+    result: u64,
     answer: &[u8],
     tag: &[u8],
     memory: &[u8],
     room: &[u8],
     out: &mut [u8],
 ) -> usize
-    requires { ⌜ length (rowText number count (now answer) (now tag) (now memory) (now room)) ≤ length (now out) ⌝ }
-    ensures { λ r. ⌜ Put (rowText number count (now (answer .entry)) (now (tag .entry)) (now (memory .entry)) (now (room .entry)))
+    requires { ⌜ length (rowText result (now answer) (now tag) (now memory) (now room)) ≤ length (now out) ⌝ }
+    ensures { λ r. ⌜ Put (rowText result (now (answer .entry)) (now (tag .entry)) (now (memory .entry)) (now (room .entry)))
         (now (out .entry)) (now (out .exit)) r ⌝ }
 {
-    let at = put_numbers(number, count, out);
+    let at = put_numbers(result, out);
     at + put_rest(answer, tag, memory, room, &mut out[at..])
 }
 
@@ -105,8 +146,8 @@ fn least(a: usize, b: usize) -> usize
     if a < b { a } else { b }
 }
 
-// The line of a call that gave a result, the refusal's number times 2^32 plus the length. What it answered stands at the start of room. A
-// length past the end of room, which no call gives, would show all of it.
+// The line of a call that gave a result. What it answered stands at the start of room. A length past the end of room, which no call gives,
+// would show all of it.
 pub fn put_call(
     result: u64,
     tag: &[u8; RECORD],
@@ -117,10 +158,8 @@ pub fn put_call(
     requires { ⌜ Suits (length (now room)) (length (now out)) ⌝ }
     ensures { λ r. ⌜ Put (callText result (now (tag .entry)) (now (memory .entry)) (now (room .entry))) (now (out .entry)) (now (out .exit)) r ⌝ }
 {
-    let number = result / 0x1_0000_0000;
-    let count = result % 0x1_0000_0000;
-    let n = least(count as usize, room.len());
-    put_row(number, count, &room[..n], tag, memory, room, out)
+    let n = least((result % 0x1_0000_0000) as usize, room.len());
+    put_row(result, &room[..n], tag, memory, room, out)
 }
 
 // "the CRC of all bytes of the list, each entry lowest byte first"
@@ -155,12 +194,12 @@ fn put_list(found: &[u64], list: &[u64], out: &mut [u8]) -> usize
 }
 
 // The whole line of a search.
-fn put_search_row(number: u64, requests: u64, found: &[u64], list: &[u64], out: &mut [u8]) -> usize
+fn put_search_row(result: u64, found: &[u64], list: &[u64], out: &mut [u8]) -> usize
     requires { ⌜ SuitsLists (length (now found)) (length (now list)) ⌝ }
-    requires { ⌜ length (searchRowText number requests (now found) (now list)) ≤ length (now out) ⌝ }
-    ensures { λ r. ⌜ Put (searchRowText number requests (now (found .entry)) (now (list .entry))) (now (out .entry)) (now (out .exit)) r ⌝ }
+    requires { ⌜ length (searchRowText result (now found) (now list)) ≤ length (now out) ⌝ }
+    ensures { λ r. ⌜ Put (searchRowText result (now (found .entry)) (now (list .entry))) (now (out .entry)) (now (out .exit)) r ⌝ }
 {
-    let at = put_numbers(number, requests, out);
+    let at = put_numbers(result, out);
     at + put_list(found, list, &mut out[at..])
 }
 
@@ -169,11 +208,9 @@ pub fn put_search(result: u64, tags: usize, list: &[u64], out: &mut [u8]) -> usi
     requires { ⌜ SuitsSearch (length (now list)) (length (now out)) ⌝ }
     ensures { λ r. ⌜ Put (searchText result tags (now (list .entry))) (now (out .entry)) (now (out .exit)) r ⌝ }
 {
-    let number = result / 0x1_0000_0000;
-    let requests = result % 0x1_0000_0000;
-    if number != 0 {
-        return put_search_row(number, requests, &list[..0], list, out);
+    if refusal_in(result) != 0 {
+        return put_search_row(result, &list[..0], list, out);
     }
     let n = least(tags, list.len());
-    put_search_row(number, requests, &list[..n], list, out)
+    put_search_row(result, &list[..n], list, out)
 }

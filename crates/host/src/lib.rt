@@ -1,8 +1,9 @@
-// The calls of a host: event, load, save and factory, with the numbers 1 to 5 of document 01. Any record, any bytes and any buffers are taken, and
-// each call ends; no caller need test anything first.
+// The calls of a host: event, load, save and factory, with the numbers 1 to 4 of document 01 and 5a to 5e of 02. Any record, any bytes and any
+// buffers are taken, and each call ends; no caller need test anything first.
 pub mod rules; // rules.rt: the record rules
 
 use image::reading;
+use image::rules::header_fault;
 use image::rules::header_right;
 use image::writing;
 use record::Kind;
@@ -28,10 +29,13 @@ pub fn is_memory(size: usize) -> bool
 pub fn fits_image(size: usize, length: usize) -> bool
     ensures { λ r. ⌜ r ≡ ((eqb size 2048 || eqb size 8192) && eqb length (64 + size)) ⌝ }
 {
-    if !is_memory(size) {
-        return false;
+    if size == 2048 {
+        return length == 2112;
     }
-    length == 64 + size
+    if size == 8192 {
+        return length == 8256;
+    }
+    false
 }
 
 // "image is not 2,112 or 8,256 bytes"
@@ -87,7 +91,7 @@ pub fn event(t: Tag, kind: Kind, frame: &[u8], memory: &mut [u8], room: &mut [u8
     }
 }
 
-// "Loading checks 4, then 1, then 5"
+// 01: "Loading checks 4, then 1, then 5"; 02: "5a to 5e stand where 5 stood."
 pub fn load(t: Tag, image: &[u8], memory: &mut [u8]) -> Outcome
     ensures { λ r. ⌜ LoadGives t (now (image .entry)) (now (memory .entry)) (now (memory .exit)) r ⌝ }
 {
@@ -96,12 +100,13 @@ pub fn load(t: Tag, image: &[u8], memory: &mut [u8]) -> Outcome
     if !whole {
         return refuse(Refusal::Image, t);
     }
-    let headed = header_right(image, last_end(memory.len()));
+    let e = last_end(memory.len());
+    let headed = header_right(image, e);
     if !fits {
         return refuse(Refusal::Memory, t);
     }
     if !headed {
-        return refuse(Refusal::Header, t);
+        return refuse(header_fault(image, e), t);
     }
     let tag = reading::load(image, memory);
     Outcome {

@@ -1,2 +1,4 @@
 pub mod Ends
 pub mod Zeros
+pub mod Reserved
+pub mod Faults

@@ -1,3 +1,4 @@
 mod InBytes
 mod Written
 pub mod Again
+pub mod Results

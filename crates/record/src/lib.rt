@@ -55,14 +55,18 @@ pub enum Kind {
     Request,
 }
 
-// "Host calls and their numbers", and those of 02
+// "Host calls and their numbers", and those of 02: a fault of a header has the place of its byte
 pub enum Refusal {
     None,
     Memory,
     Room,
     Record,
     Image,
-    Header,
+    Mark(u8),
+    Lock(u8),
+    Protection(u8),
+    End(u8),
+    Reserved(u8),
     Tags,
     Equal,
     Small,

@@ -124,7 +124,7 @@ pub fn write_register(e: u8, v: Vault, address: u8, value: u8) -> RegisterWrite
 
 // "each ENDAi is at most E; if ENDAi is below E then ENDA(i+1) is above ENDAi; if ENDAi is E then all later ends are E". Each test leads to
 // its own answer, so that a compiler makes a jump of it and keeps no truth values.
-fn end_rules(e: u8, x: u8, y: u8) -> bool
+pub fn end_rules(e: u8, x: u8, y: u8) -> bool
     ensures { λ r. ⌜ r ≡ (endRule e y && pairRule e x y) ⌝ }
 {
     if e < y {

@@ -13,9 +13,11 @@ use Rattle.rights.proofs.Cases.{or-true, join, or-one}
 use Rattle.record.specs.declared.Tag.{Tag}
 use Rattle.tag.specs.Rules.{blocksOf, sound}
 use Rattle.tag.specs.Image.{tagIn, headerRule, imageOf}
+use Rattle.tag.specs.Fault.{Fault, headerFault}
 use Rattle.tag.specs.Host.{isMemory, fitsImage, isImage, loadRefused, loadGiven, LoadGiven, saveGiven}
 use Rattle.tag.proofs.Sizes.{fitting}
 use Rattle.tag.proofs.Off.{sound-rules, nothing-passing}
+use Rattle.tag.proofs.Faults.{some-fault}
 use Rattle.tag.proofs.Headers.{header-rules, sound-in, image-again, field-in, Lasting, tag-again, image-length, memory-again, header-right}
 
 -- ---- lengths
@@ -43,7 +45,7 @@ sized m i h =
 -- ---- calls that refuse nothing
 
 abbrev loaded : List ℕ → LoadGiven
-loaded i = record { number = 0; length = 0; tag = tagIn i; memory = drop 64 i }
+loaded i = record { number = 0; place = 0; length = 0; tag = tagIn i; memory = drop 64 i }
 
 -- an image that loading accepts
 record Accepted (m i : List ℕ) : Type 0 where
@@ -54,11 +56,16 @@ accepted : (t : Tag) (i m : List ℕ) → loadGiven t i m .number ≡ 0 → Acce
 unfolding loadGiven
 accepted t i m h = go (isImage i) (fitsImage m i) (headerRule (blocksOf m) i) refl refl h
   where
+    f : Fault
+    f = headerFault (blocksOf m) i
+
     go : (a b c : Bool) → fitsImage m i ≡ b → headerRule (blocksOf m) i ≡ c
-        → (if not a then loadRefused 4 t m else if not b then loadRefused 1 t m else if not c then loadRefused 5 t m else loaded i) .number ≡ 0 → Accepted m i
+        → (if not a then loadRefused 4 0 t m else
+        if not b then loadRefused 1 0 t m else
+        if not c then loadRefused (f .number) (f .place) t m else loaded i) .number ≡ 0 → Accepted m i
     go false b c p q h = absurd (omega arith)
     go true false c p q h = absurd (omega arith)
-    go true true false p q h = absurd (omega arith)
+    go true true false p q h = absurd (some-fault (blocksOf m) i q h)
     go true true true p q h = record { sizes = sized m i p; header = q }
 
 loading : (t : Tag) {i m : List ℕ} → Accepted m i → loadGiven t i m ≡ loaded i
@@ -92,7 +99,7 @@ load-save t i m j b e h =
 pub save-load : (t : Tag) (m j : List ℕ) → Lasting t → t .front .field ≡ false → sound (blocksOf m) t ≡ true → isMemory m ≡ true → length j ≡ 64 + length m
     → (t₀ : Tag) (m₀ : List ℕ) → length m₀ ≡ length m
     → (saveGiven t m j ≡ record { number = 0; length = 64 + length m; tag = t; image = imageOf t m })
-    × (loadGiven t₀ (saveGiven t m j .image) m₀ ≡ record { number = 0; length = 0; tag = t; memory = m })
+    × (loadGiven t₀ (saveGiven t m j .image) m₀ ≡ record { number = 0; place = 0; length = 0; tag = t; memory = m })
 save-load t m j l e h w k t₀ m₀ n =
     let rules = sound-rules h in
     let x = image-length t m in

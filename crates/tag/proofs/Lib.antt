@@ -31,3 +31,4 @@ pub mod Secret
 pub mod Demand3
 pub mod SecretExamples
 pub mod Refused
+pub mod Faults

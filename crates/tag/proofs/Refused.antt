@@ -1,4 +1,4 @@
--- The numbers of refusals, call by call, in their order: 0 where the call is done.
+-- The numbers of refusals, call by call, in their order: 0 where the call is done. Only loading has places.
 -- Assumes nothing.
 use Prim.Native.Nat.{ℕ}
 use mathlib.Core.Path.{_≡_, refl}
@@ -11,6 +11,7 @@ use Rattle.record.specs.declared.Tag.{Tag}
 use Rattle.tag.specs.Rules.{blocksOf, sound}
 use Rattle.tag.specs.Step.{Event}
 use Rattle.tag.specs.Image.{headerRule}
+use Rattle.tag.specs.Fault.{headerFault}
 use Rattle.tag.specs.Host.{isMemory, fitsImage, leastRoom, isImage, EventGiven, eventGiven, LoadGiven, loadGiven, SaveGiven, saveGiven, factoryGiven}
 
 either : {A : Type 0} (f : A → ℕ) (a : Bool) (p q : A) → f (if a then p else q) ≡ (if a then f p else f q)
@@ -28,12 +29,21 @@ unfolding eventGiven
 event-number t e m x =
     chosen (λ (g : EventGiven). g .number) (not (isMemory m)) (ltb (length x) leastRoom) (not (sound (blocksOf m) t)) _ _ _ _
 
--- "Loading checks 4, then 1, then 5"
+-- 01: "Loading checks 4, then 1, then 5"; 02: "5a to 5e stand where 5 stood."
 pub load-number : (t : Tag) (i m : List ℕ)
-    → loadGiven t i m .number ≡ (if not (isImage i) then 4 else if not (fitsImage m i) then 1 else if not (headerRule (blocksOf m) i) then 5 else 0)
+    → loadGiven t i m .number
+    ≡ (if not (isImage i) then 4 else if not (fitsImage m i) then 1 else if not (headerRule (blocksOf m) i) then headerFault (blocksOf m) i .number else 0)
 unfolding loadGiven
 load-number t i m =
     chosen (λ (g : LoadGiven). g .number) (not (isImage i)) (not (fitsImage m i)) (not (headerRule (blocksOf m) i)) _ _ _ _
+
+-- 4 and 1 have no place
+pub load-place : (t : Tag) (i m : List ℕ)
+    → loadGiven t i m .place
+    ≡ (if not (isImage i) then 0 else if not (fitsImage m i) then 0 else if not (headerRule (blocksOf m) i) then headerFault (blocksOf m) i .place else 0)
+unfolding loadGiven
+load-place t i m =
+    chosen (λ (g : LoadGiven). g .place) (not (isImage i)) (not (fitsImage m i)) (not (headerRule (blocksOf m) i)) _ _ _ _
 
 -- "saving checks 4, 1, 3"
 pub save-number : (t : Tag) (m i : List ℕ)

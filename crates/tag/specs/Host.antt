@@ -14,18 +14,44 @@ use Rattle.record.specs.declared.Outcome.{Outcome}
 use Rattle.tag.specs.Rules.{blocksOf, lastEnd, sound}
 use Rattle.tag.specs.Step.{Event, step}
 use Rattle.tag.specs.Image.{headerLength, tagIn, headerRule, imageOf, factory}
+use Rattle.tag.specs.Fault.{Fault, fault, headerFault}
 
--- the number of each refusal that the code names, 1 to 5 in 01 and the others in 02, 0 for none; what a call gives is said by these numbers
+-- the number of each refusal that the code names, 1 to 4 in 01 and the others in 02, 5a to 5e being 5Ah to 5Eh, 0 for none; what a call gives
+-- is said by these numbers
 abbrev pub numberOf : Refusal → ℕ
 numberOf refusal.None = 0
 numberOf refusal.Memory = 1
 numberOf refusal.Room = 2
 numberOf refusal.Record = 3
 numberOf refusal.Image = 4
-numberOf refusal.Header = 5
+numberOf (refusal.Mark place) = 0x5A
+numberOf (refusal.Lock place) = 0x5B
+numberOf (refusal.Protection place) = 0x5C
+numberOf (refusal.End place) = 0x5D
+numberOf (refusal.Reserved place) = 0x5E
 numberOf refusal.Tags = 6
 numberOf refusal.Equal = 7
 numberOf refusal.Small = 18
+
+-- 02: ".. with the lowest offending byte's place", 0 for a refusal that has none
+abbrev pub placeOf : Refusal → ℕ
+placeOf refusal.None = 0
+placeOf refusal.Memory = 0
+placeOf refusal.Room = 0
+placeOf refusal.Record = 0
+placeOf refusal.Image = 0
+placeOf (refusal.Mark place) = place
+placeOf (refusal.Lock place) = place
+placeOf (refusal.Protection place) = place
+placeOf (refusal.End place) = place
+placeOf (refusal.Reserved place) = place
+placeOf refusal.Tags = 0
+placeOf refusal.Equal = 0
+placeOf refusal.Small = 0
+
+-- number and place, as of a fault
+abbrev pub faultOf : Refusal → Fault
+faultOf r = fault (numberOf r) (placeOf r)
 
 -- 1: "user memory lent is not 2,048 or 8,192 bytes"
 abbrev pub isMemory : List ℕ → Bool
@@ -81,9 +107,10 @@ pub record EventGives (t : Tag) (e : Event) (m x m′ x′ : List ℕ) (r : Outc
 
 -- ---- loading
 
--- of a call that fills the memory
+-- of a call that fills the memory: its number, and the place that goes with it
 pub record LoadGiven : Type 0 where
   pub number : ℕ
+  pub place : ℕ
   pub length : ℕ
   pub tag : Tag
   pub memory : List ℕ
@@ -91,20 +118,22 @@ pub record LoadGiven : Type 0 where
 -- a call that is to give g leaves the memory m′ and returns r
 pub record Fills (g : LoadGiven) (m′ : List ℕ) (r : Outcome) : Type 0 where
   pub number : numberOf (r .refusal) ≡ g .number
+  pub place : placeOf (r .refusal) ≡ g .place
   pub length : r .length ≡ g .length
   pub tag : r .tag ≡ g .tag
   pub memory : m′ ≡ g .memory
 
-abbrev pub loadRefused : ℕ → Tag → List ℕ → LoadGiven
-loadRefused number t m = record { number = number; length = 0; tag = t; memory = m }
+abbrev pub loadRefused : ℕ → ℕ → Tag → List ℕ → LoadGiven
+loadRefused number place t m = record { number = number; place = place; length = 0; tag = t; memory = m }
 
--- "Loading checks 4, then 1, then 5"; "Loading fills the memory and returns the record, length 0"
+-- 01: "Loading checks 4, then 1, then 5"; "Loading fills the memory and returns the record, length 0". 02: "5a to 5e stand where 5 stood."
 unfoldable pub loadGiven : Tag → List ℕ → List ℕ → LoadGiven
 loadGiven t i m =
-    if not (isImage i) then loadRefused 4 t m else
-    if not (fitsImage m i) then loadRefused 1 t m else
-    if not (headerRule (blocksOf m) i) then loadRefused 5 t m else
-    record { number = 0; length = 0; tag = tagIn i; memory = drop headerLength i }
+    if not (isImage i) then loadRefused 4 0 t m else
+    if not (fitsImage m i) then loadRefused 1 0 t m else
+    let f = headerFault (blocksOf m) i in
+    if not (headerRule (blocksOf m) i) then loadRefused (f .number) (f .place) t m else
+    record { number = 0; place = 0; length = 0; tag = tagIn i; memory = drop headerLength i }
 
 abbrev pub LoadGives : Tag → List ℕ → List ℕ → List ℕ → Outcome → Type 0
 LoadGives t i m m′ r = Fills (loadGiven t i m) m′ r
@@ -140,8 +169,8 @@ pub record SaveGives (t : Tag) (m i i′ : List ℕ) (r : Outcome) : Type 0 wher
 -- filled; where that is not 2,048 or 8,192 bytes, number 1, and record and memory stay
 unfoldable pub factoryGiven : Tag → ℕ → List ℕ → LoadGiven
 factoryGiven t uid m =
-    if not (isMemory m) then loadRefused 1 t m else
-    record { number = 0; length = 0; tag = factory (lastEnd (blocksOf m)) uid; memory = replicate (length m) 0 }
+    if not (isMemory m) then loadRefused 1 0 t m else
+    record { number = 0; place = 0; length = 0; tag = factory (lastEnd (blocksOf m)) uid; memory = replicate (length m) 0 }
 
 abbrev pub FactoryGives : Tag → ℕ → List ℕ → List ℕ → Outcome → Type 0
 FactoryGives t uid m m′ r = Fills (factoryGiven t uid m) m′ r

@@ -7,6 +7,7 @@ pub mod Blocks
 pub mod Commands
 pub mod Step
 pub mod Image
+pub mod Fault
 pub mod Host
 pub mod Demand3
 pub mod Secrecy

@@ -10,7 +10,7 @@ use lib.ListN.{length}
 use Rattle.put.specs.If.{if_then_else_}
 use Rattle.tag.specs.Host.{numberOf}
 use Rattle.tag.proofs.Refused.{chosen}
-use Rattle.tag.proofs.OnlyOne.{ExactlyOne, refusalOf, one-refusal, Numbered, numbered}
+use Rattle.tag.proofs.OnlyOne.{ExactlyOne, refusalOf, Numbered, numbered, some-refusal, one-numbered}
 use Rattle.tray.specs.declared.Searched.{Searched}
 use Rattle.tray.specs.Tray.{SearchGiven, given, searchGiven, anyEqual}
 
@@ -45,16 +45,18 @@ givenBy o = given (numberOf (o .result .refusal)) (o .result .requests) (o .list
 pub one-search : (uids room : List ℕ) → ExactlyOne (λ (o : SearchOutcome). givenBy o ≡ searchGiven uids room)
 unfolding refusalOf
 one-search uids room = let g = searchGiven uids room in record {
-  outcome = record { result = record { refusal = refusalOf (g .number); requests = g .requests }; list = g .list };
-  meets = ap (λ (n : ℕ). given n (g .requests) (g .list)) some;
+  outcome = record { result = record { refusal = refusalOf (g .number) 0; requests = g .requests }; list = g .list };
+  meets = ap (λ (n : ℕ). given n (g .requests) (g .list)) (some-refusal numbers);
   only = λ o p h k i. record {
     result = record {
-      refusal = one-refusal {r = o .result .refusal} {s = p .result .refusal} (ap (λ (x : SearchGiven). x .number) h) (ap (λ (x : SearchGiven). x .number) k) i;
+      refusal =
+          one-numbered (o .result .refusal) (p .result .refusal) numbers
+          (ap (λ (x : SearchGiven). x .number) h) (ap (λ (x : SearchGiven). x .number) k) i;
       requests = (h ∙ sym k) i .requests;
     };
     list = (h ∙ sym k) i .list;
   };
 }
   where
-    some : Numbered (searchGiven uids room .number)
-    some = rw (search-number uids room) (numbered (ltb 256 (length uids)) (anyEqual uids) (ltb (length room) (length uids)) 6 7 18 refl refl refl)
+    numbers : Numbered (searchGiven uids room .number)
+    numbers = rw (search-number uids room) (numbered (ltb 256 (length uids)) (anyEqual uids) (ltb (length room) (length uids)) 6 7 18 refl refl refl)

@@ -83,11 +83,11 @@ CASES = (
     Case(
         "number-5-byte-0-small", "byte 0 does not fit the image's length",
         "were byte 0 only to be 1 or 2, the 16 Kbit image that begins 02 would be loaded",
-        lend() + (load("02" + image_text()[2:], 5), load(image_text()))),
+        lend() + (load("02" + image_text()[2:], "5a:0"), load(image_text()))),
     Case(
         "number-5-byte-0-large", "byte 0 does not fit the image's length",
         "were byte 0 only to be 1 or 2, the 64 Kbit image that begins 01 would be loaded",
-        lend(8192) + (load("01" + LARGE_IMAGE[2:], 5), load(LARGE_IMAGE))),
+        lend(8192) + (load("01" + LARGE_IMAGE[2:], "5a:0"), load(LARGE_IMAGE))),
     Case(
         "event-1-before-2", "An event checks 1, 2, 3 in that order.",
         "were the room looked at before the memory, the number would be 2",
@@ -106,11 +106,11 @@ CASES = (
         lend(2047) + (load("", 4),)),
     Case(
         "load-1-before-5", "Loading checks 4, then 1, then 5",
-        "were the header looked at before the memory, the number would be 5",
+        "were the header looked at before the memory, the number would be 5c:12",
         lend(2047) + (load(image_text(BROKEN), 1),)),
     Case(
         "load-4-before-5", "Loading checks 4, then 1, then 5",
-        "were the header looked at before the image's length, the number would be 5",
+        "were the header looked at before the image's length, the number would be 5c:12",
         lend() + (load(BROKEN[:128], 4),)),
     Case(
         "save-4-before-1", "saving checks 4, 1, 3",
@@ -152,7 +152,7 @@ CASES = (
         "refused-load-keeps-all", "A refusal returns its number and length 0; record and buffers stay.",
         "were the memory filled before the header is found broken, it would hold 55h; were the field off, byte 64 00",
         standing(SMALL, {AFI: 0x35}) + (
-            load(image_text(record_text(SMALL, changes={63: 1}), FILLED), 5, record={AFI: 0x35, FIELD: 1},
+            load(image_text(record_text(SMALL, changes={63: 1}), FILLED), "5e:63", record={AFI: 0x35, FIELD: 1},
                  memory=shown_crc(ZEROS), room=shown_crc(ROOM)),)),
     Case(
         "refused-save-keeps-image", "A refusal returns its number and length 0; record and buffers stay.",

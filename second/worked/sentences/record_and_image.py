@@ -75,9 +75,9 @@ def loaded(record, *steps):
     return lent(SMALL) + (load(image_text(record)), event("ON")) + steps
 
 
-def refused(*changes):
-    """Headers that are refused with 5."""
-    return lent(SMALL) + tuple(load(header(change), 5) for change in changes)
+def refused(*faults):
+    """Headers that are refused: the number with its place, and what is changed."""
+    return lent(SMALL) + tuple(load(header(changes), number) for number, changes in faults)
 
 
 def lock_bit(bit):
@@ -207,7 +207,7 @@ CASES = (
     Case(
         "image-byte-0-unknown", "Byte 0: 1 for 16 Kbit, 2 for 64 Kbit",
         "were sizes counted from 0, or byte 0 passed over, an image that begins 00 or 03 would be loaded",
-        refused({0: 0}, {0: 3}, {0: 0xFF})),
+        refused(("5a:0", {0: 0}), ("5a:0", {0: 3}), ("5a:0", {0: 0xFF}))),
     Case(
         "image-byte-0-saved", "Byte 0: 1 for 16 Kbit, 2 for 64 Kbit",
         "were the marks another pair, the images would not begin 01 and 02",
@@ -226,7 +226,7 @@ CASES = (
     Case(
         "image-lock-bits-others", "11 locks .. others 0",
         "were the other bits passed over, an image with one of bits 5 to 7 would be loaded",
-        refused({LOCKS: 0x20}, {LOCKS: 0x40}, {LOCKS: 0x80})),
+        refused(("5b:11", {LOCKS: 0x20}), ("5b:11", {LOCKS: 0x40}), ("5b:11", {LOCKS: 0x80}))),
     Case(
         "image-registers", "12 to 18 RFA1SS, ENDA1, RFA2SS, ENDA2, RFA3SS, ENDA3, RFA4SS",
         "were the four RFAiSS before the three ENDAi, or the order another, the registers would not read so",
@@ -235,20 +235,20 @@ CASES = (
     Case(
         "header-protection", "image header breaks a rule .. each RFAiSS is at most 0Fh .. 12 to 18",
         "were the record rules not those of a header too, RFAiSS = 10h would be loaded",
-        refused({12: 0x10}, {14: 0x10}, {16: 0x10}, {18: 0x10})),
+        refused(*((f"5c:{place}", {place: 0x10}) for place in (12, 14, 16, 18)))),
     Case(
         "header-end-over-e", "image header breaks a rule .. each ENDAi is at most E .. 12 to 18",
         "were the record rules not those of a header too, an end of 64 would be loaded",
-        refused({13: 64}, {13: 1, 15: 64}, {13: 1, 15: 2, 17: 64})),
+        refused(("5d:13", {13: 64}), ("5d:15", {13: 1, 15: 64}), ("5d:17", {13: 1, 15: 2, 17: 64}))),
     Case(
         "header-next-end-above",
         "image header breaks a rule .. if ENDAi is below E then ENDA(i+1) is above ENDAi .. 12 to 18",
         "were the order of the ends not looked at in a header, 12, 12 and 12, 13, 13 would be loaded",
-        refused({13: 12, 15: 12}, {13: 12, 15: 13, 17: 13})),
+        refused(("5d:15", {13: 12, 15: 12}), ("5d:17", {13: 12, 15: 13, 17: 13}))),
     Case(
         "header-ends-after-e", "image header breaks a rule .. if ENDAi is E then all later ends are E .. 12 to 18",
         "were the ends after E not looked at in a header, 63, 62, 63 and 63, 63, 62 would be loaded",
-        refused({15: 62}, {17: 62})),
+        refused(("5d:15", {15: 62}), ("5d:17", {17: 62}))),
     Case(
         "image-passwords", "19 to 50 passwords 0 to 3",
         "were they in another order, of another length or highest byte first, one of the four would be wrong: 01 0F",
@@ -257,10 +257,10 @@ CASES = (
     Case(
         "image-reserved-zero", "51 to 63 zero",
         "were one of these passed over, or not looked at, its image would be loaded",
-        refused({51: 1}, {57: 1}, {63: 1})),
+        refused(("5e:51", {51: 1}), ("5e:57", {57: 1}), ("5e:63", {63: 1}))),
     Case(
         "image-reserved-bounds", "19 to 50 passwords 0 to 3; 51 to 63 zero",
-        "were byte 50 or the first byte of the memory held to be zero, the image would be refused with 5",
+        "were byte 50 or the first byte of the memory held to be zero, the image would be refused with 5e",
         lent(SMALL) + (load(image_text(record_text(SMALL, changes={50: 1}), WRITTEN), record={50: 1, 51: 0}),)),
     Case(
         "load-field-off", "Loading gives a tag with the field off.",
@@ -285,7 +285,7 @@ CASES = (
             load(image_text(), record={FIELD: 0, SESSION: 0}))),
     Case(
         "uid-not-restricted", "UID values aren't restricted.",
-        "were a UID to begin with E0 02, or not to be all zeros or ones, these would be refused with 3 or 5",
+        "were a UID to begin with E0 02, or not to be all zeros or ones, these would be refused with 3 or a letter of 5",
         lent(SMALL, uid="00" * 8) + (event("ON"), request("260100", framed("00" * 10)))
         + lent(SMALL, uid="FF" * 8) + (event("ON"), request("260100", framed("0000" + "FF" * 8)))
         + lent(SMALL) + tuple(load(image_text(record_text(SMALL, uid=uid))) for uid in ("00" * 8, "FF" * 8))),

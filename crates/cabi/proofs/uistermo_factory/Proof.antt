@@ -8,7 +8,8 @@ use Rattle.tag.specs.Image.{factory}
 use Rattle.tag.specs.Host.{factoryGiven}
 use Rattle.host.proofs.Lent.{end-by-size}
 use Rattle.packed.specs.Bytes.{recordOf}
-use Rattle.cabi.specs.Calls.{resultOf, factoryLeft}
+use Rattle.packed.specs.Result.{resultOf}
+use Rattle.cabi.specs.Calls.{factoryLeft}
 use Rattle.cabi.proofs.Left.{fill-by}
 use borrow.Author.Needs.{needs}
 use Rattle.cabi.proofs.uistermo_factory.Statement.{statement}
@@ -19,7 +20,7 @@ returns : tie.Need-returns
 unfolding factoryLeft factoryGiven
 returns c =
     let at = c .before .before .before .before .args in
-    fill-by (record { result = resultOf 1 0; bytes = at .bytes .now; memory = at .memory .now })
+    fill-by (record { result = resultOf 0 1 0; bytes = at .bytes .now; memory = at .memory .now })
     (rw (← c .before .before .is-memory .ensures, c .before .if1 .taken)) (c .refused .ensures) refl refl
 
 -- else the memory is filled, and the record is a factory tag's

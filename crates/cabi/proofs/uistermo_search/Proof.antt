@@ -16,7 +16,7 @@ add-result c = omega (arith, number-most (c .before .before .before .before .sea
 
 -- so that the result is made of both
 returns : tie.Need-returns
-returns c = rw (c .before .number .ensures) (search-by (c .before .before .before .before .search .ensures))
+returns c = search-by _ _ (c .before .before .before .before .search .ensures) (omega (arith, c .before .number .ensures))
 
 pub uistermo-search-spec : {M : Type 1} → statement M
 uistermo-search-spec =

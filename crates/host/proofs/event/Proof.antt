@@ -71,7 +71,7 @@ returns-4 c =
       ← tests .is-sound .ensures,
       done .before .before .before .if3 .left,
     ))
-    (record { number = refl; length = rw (done .step .ensures .result); tag = rw (done .step .ensures .result) })
+    (record { number = refl; place = refl; length = rw (done .step .ensures .result); tag = rw (done .step .ensures .result) })
     (done .step .ensures .memory) (done .step .ensures .room)
 
 pub event-spec : {M : Type 1} → statement M

@@ -16,7 +16,7 @@ returns : tie.Need-returns
 unfolding factoryGiven
 returns c =
     let at = c .before .before .before .before .args in
-    fills-by (loadRefused 1 (at .t) (at .memory .now)) (rw (← c .before .before .is-memory .ensures, c .before .if1 .taken))
+    fills-by (loadRefused 1 0 (at .t) (at .memory .now)) (rw (← c .before .before .is-memory .ensures, c .before .if1 .taken))
     (returns-by (c .refuse .ensures)) refl
 
 -- else the memory is filled, and the record is a factory tag's
@@ -27,9 +27,9 @@ returns-2 c =
     let at = filled .before .before .before .before .before .args in
     let m = at .memory .now in
     let lent = kept (filled .before .before .before .is-memory .ensures) (filled .before .before .if1 .left) in
-    fills-by (record { number = 0; length = 0; tag = factory (lastEnd (blocksOf m)) (at .uid); memory = replicate (length m) 0 })
+    fills-by (record { number = 0; place = 0; length = 0; tag = factory (lastEnd (blocksOf m)) (at .uid); memory = replicate (length m) 0 })
     (rw lent)
-    (record { number = refl; length = refl; tag = rw (end-by-size m lent, ← c .before .last-end .ensures) (c .factory .ensures) })
+    (record { number = refl; place = refl; length = refl; tag = rw (end-by-size m lent, ← c .before .last-end .ensures) (c .factory .ensures) })
     (filled .fill .ensures)
 
 pub factory-spec : {M : Type 1} → statement M

@@ -77,7 +77,7 @@ returns-4 c =
       ← tests .is-sound .ensures,
       c .before .before .before .before .if3 .left,
     ))
-    (record { number = refl; length = saved .0; tag = refl }) (saved .1)
+    (record { number = refl; place = refl; length = saved .0; tag = refl }) (saved .1)
 
 pub save-spec : {M : Type 1} → statement M
 save-spec =

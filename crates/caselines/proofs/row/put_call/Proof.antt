@@ -16,7 +16,7 @@ slice-aggregate-put-row c = sym (part-length _ _ (c .before .least .ensures))
 put-row-requires : tie.Need-put-row-requires
 put-row-requires c κs =
     let s = c .before .before .before .before .before .before .before in
-    le-trans (row-most _ _ _ _ _ _ (part-most _ _ (c .before .before .before .least .ensures) (s .pre .of-room)) (search needs)) (s .pre .of-out)
+    le-trans (row-most _ _ _ _ _ (part-most _ _ (c .before .before .before .least .ensures) (s .pre .of-room)) (search needs)) (s .pre .of-out)
 
 -- the part is as long as the result says
 returns : tie.Need-returns
