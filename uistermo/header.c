@@ -8,9 +8,9 @@
 
 static const char help[] =
     "Lists every byte of an image's header by its place, from 0: what it is and what it says. Where the header breaks a rule, <-- and\n"
-    "the number mark the lowest byte at fault, and the exit status is 1; bytes after it are listed, and not judged: which blocks an\n"
-    "area has is then not said. Bytes 19 to 50, the passwords, are never shown; where bytes are missing or too many, some of a\n"
-    "password may stand at other places. The memory is not looked at.\n"
+    "the number mark the lowest byte at fault, and the exit status is 1; bytes after it are listed, and not judged: an end after\n"
+    "it says its number alone. Bytes 19 to 50, the passwords, are never shown; where bytes are missing or too many, some of a password\n"
+    "may stand at other places. The memory is not looked at.\n"
     "\n"
     "  0          size mark: 01h for 16 Kbit, 02h for 64 Kbit, as the file's length asks for (2,112 or 8,256 bytes); else 5a\n"
     "  1 to 8     UID, lowest byte first\n"

@@ -301,7 +301,7 @@ def register_text(image, place, fault):
     value, area = image[place], (place - 10) // 2
     if place % 2:
         has = ", ".join(area_blocks(image, its) for its in ((3, 4) if area == 3 else (area,)))
-        return f"{value}" if 0 <= fault < place else f"{value}: {has}"
+        return f"{value}" if fault < place else f"{value}: {has}"
     if value > 0x0F:
         return f"Area {area}: {value:02X}h is above 0Fh"
     record = host.factory(None, bytearray(2048), 0).record.with_register(place - 12, value)

@@ -99,7 +99,8 @@ module _ (i r m : List ℕ) (a : isImage i ≡ true) (b : fitsImage m i ≡ true
   pub load-taken : {t : Tag} {r′ m′ : List ℕ} → headerRule (blocksOf m) i ≡ true → (t ≡ tagIn i) × (m′ ≡ drop 64 i) → r′ ≡ recordOf (length m) t
       → LoadLeaves i r m r′ m′ 0
   unfolding loadLeft loadGiven
-  load-taken right h p = fill-by (record { result = 0; bytes = recordOf (length m) (tagIn i); memory = drop 64 i }) (rw (a, b, right)) refl (rw (← h .0) p) (h .1)
+  load-taken right h p =
+      fill-by (record { result = 0; bytes = recordOf (length m) (tagIn i); memory = drop 64 i }) (rw (a, b, right)) refl (rw (← h .0) p) (h .1)
 
 module _ {r m i i′ : List ℕ} where
   pub save-by : {n : ℕ} (g : SaveLeft) → saveLeft r m i ≡ g → n ≡ g .result → i′ ≡ g .image → SaveLeaves r m i i′ n

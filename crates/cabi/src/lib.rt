@@ -121,7 +121,7 @@ pub extern "C" fn uistermo_event(
     s.length as u64
 }
 
-// "LOAD does not look at them", the bytes that were there
+// 01: "Loading checks 4, then 1, then 5"; 02: "5a to 5e stand where 5 stood." "LOAD does not look at them", the bytes that were there
 #[no_mangle]
 pub extern "C" fn uistermo_load(bytes: &mut [u8; RECORD], image: &[u8], memory: &mut [u8]) -> u64
     ensures { λ n. ⌜ LoadLeaves (now (image .entry)) (now (bytes .entry)) (now (memory .entry)) (now (bytes .exit)) (now (memory .exit)) n ⌝ }

@@ -227,7 +227,7 @@ pub record SaveOutcome : Type 0 where
   pub result : Outcome
   pub image : List ℕ
 
--- nor has that of saving
+-- a number of saving has no place either
 save-numbered : (t : Tag) (m i : List ℕ) → Numbered (saveGiven t m i .number)
 unfolding refusalOf
 save-numbered t m i = rw (save-number t m i) (numbered (not (isImage i)) (not (fitsImage m i)) (not (sound (blocksOf m) t)) 4 1 3 refl refl refl)

@@ -1,13 +1,22 @@
 -- `image::rules::header_fault` meets its contract: each rule in its order, as the bytes stand.
 -- Assumes nothing.
-use mathlib.Core.Path.{refl, sym}
+use mathlib.Core.Path.{_≡_, refl, sym}
+use mathlib.Core.Bool.{true}
+use Prim.Native.Nat.{_+_, _*_}
 use Rattle.put.proofs.Proves.{proves}
 use Rattle.rights.proofs.Cases.{kept, broken}
-use Rattle.tag.specs.Fault.{firstFault}
+use Rattle.tag.specs.Fault.{reservedFault, firstFault, headerFault}
 use Rattle.image.proofs.Faults.{in-order, all-kept}
 use borrow.Author.Needs.{needs}
 use Rattle.image.proofs.rules.header_fault.Statement.{statement}
 use Rattle.image.proofs.rules.header_fault.Tie as tie
+use Rattle.image.proofs.rules.header_fault.Reads as reads
+use Rattle.image.proofs.rules.header_fault.Lts as lts
+use Rattle.image.proofs.reading.read_areas.Reads as areas
+use Rattle.image.proofs.rules.mark_right.Reads as mark
+use Rattle.image.proofs.rules.locks_right.Reads as locks
+use Rattle.rights.proofs.registers.end_rules.Reads as ends
+use Rattle.image.proofs.rules.reserved_fault.Reads as reserved
 
 -- byte 0
 returns : tie.Need-returns
@@ -26,89 +35,81 @@ returns-2 c =
     rw (in-order (at .e) (at .image .now) (c .before .before .before .mark-right .ensures) (c .before .locks-right .ensures) read)
     (search (proves, c .before .before .if1 .left, c .if2 .taken))
 
+-- where mark and locks were found right
+abbrev Past : Type 0
+Past =
+    lts.Else2
+    (areas.Asked, areas.Learnt, mark.Asked, mark.Learnt, locks.Asked, locks.Learnt, ends.Asked, ends.Learnt, reserved.Asked, reserved.Learnt)
+    reads.Pre
+    reads.Post
+
+-- what is left to look for from there
+from-12 : (l : Past) → let at = l .before .before .before .before .before .before .args in
+    headerFault (8 * (at .e + 1)) (at .image .now)
+    ≡ firstFault (at .e) true true (l .before .before .before .before .read-areas .result) (reservedFault 13 (at .image .now) 51)
+from-12 l =
+    let at = l .before .before .before .before .before .before .args in
+    in-order (at .e) (at .image .now)
+    (sym (kept (l .before .before .before .mark-right .ensures) (l .before .before .if1 .left)))
+    (sym (kept (l .before .locks-right .ensures) (l .if2 .left)))
+    (l .before .before .before .before .read-areas .ensures)
+
 -- byte 12
 returns-3 : tie.Need-returns-3
 unfolding firstFault
-returns-3 c =
-    let l = c .before .before in
-    let at = l .before .before .before .before .before .before .args in
-    let read = l .before .before .before .before .read-areas .ensures in
-    rw (in-order (at .e) (at .image .now) (l .before .before .before .mark-right .ensures) (l .before .locks-right .ensures) read)
-    (search (proves, l .before .before .if1 .left, l .if2 .left))
+returns-3 c = rw (from-12 (c .before .before)) (search proves)
 
 -- byte 13, an end above E
 returns-4 : tie.Need-returns-4
 unfolding firstFault
-returns-4 c =
-    let l = c .before .before .before .before in
-    let at = l .before .before .before .before .before .before .args in
-    let read = l .before .before .before .before .read-areas .ensures in
-    rw (in-order (at .e) (at .image .now) (l .before .before .before .mark-right .ensures) (l .before .locks-right .ensures) read)
-    (search (proves, l .before .before .if1 .left, l .if2 .left))
+returns-4 c = rw (from-12 (c .before .before .before .before)) (search proves)
 
 -- byte 14
 returns-5 : tie.Need-returns-5
 unfolding firstFault
-returns-5 c =
-    let l = c .before .before .before .before .before .before in
-    let at = l .before .before .before .before .before .before .args in
-    let read = l .before .before .before .before .read-areas .ensures in
-    rw (in-order (at .e) (at .image .now) (l .before .before .before .mark-right .ensures) (l .before .locks-right .ensures) read)
-    (search (proves, l .before .before .if1 .left, l .if2 .left))
+returns-5 c = rw (from-12 (c .before .before .before .before .before .before)) (search proves)
 
 -- byte 15, an end above E or the later of a wrong pair
 returns-6 : tie.Need-returns-6
 unfolding firstFault
 returns-6 c =
-    let l = c .before .before .before .before .before .before .before .before in
-    let at = l .before .before .before .before .before .before .args in
-    let read = l .before .before .before .before .read-areas .ensures in
     rw (
-      in-order (at .e) (at .image .now) (l .before .before .before .mark-right .ensures) (l .before .locks-right .ensures) read,
+      from-12 (c .before .before .before .before .before .before .before .before),
       broken (c .before .end-rules .ensures) (c .if6 .taken),
     )
-    (search (proves, l .before .before .if1 .left, l .if2 .left))
+    (search proves)
 
 -- byte 16
 returns-7 : tie.Need-returns-7
 unfolding firstFault
 returns-7 c =
-    let l = c .before .before .before .before .before .before .before .before .before .before in
-    let at = l .before .before .before .before .before .before .args in
-    let read = l .before .before .before .before .read-areas .ensures in
     rw (
-      in-order (at .e) (at .image .now) (l .before .before .before .mark-right .ensures) (l .before .locks-right .ensures) read,
+      from-12 (c .before .before .before .before .before .before .before .before .before .before),
       kept (c .before .before .before .end-rules .ensures) (c .before .before .if6 .left),
     )
-    (search (proves, l .before .before .if1 .left, l .if2 .left))
+    (search proves)
 
 -- byte 17, as byte 15
 returns-8 : tie.Need-returns-8
 unfolding firstFault
 returns-8 c =
-    let l = c .before .before .before .before .before .before .before .before .before .before .before .before in
-    let at = l .before .before .before .before .before .before .args in
-    let read = l .before .before .before .before .read-areas .ensures in
     rw (
-      in-order (at .e) (at .image .now) (l .before .before .before .mark-right .ensures) (l .before .locks-right .ensures) read,
+      from-12 (c .before .before .before .before .before .before .before .before .before .before .before .before),
       kept (c .before .before .before .before .before .end-rules .ensures) (c .before .before .before .before .if6 .left),
       broken (c .before .end-rules2 .ensures) (c .if8 .taken),
     )
-    (search (proves, l .before .before .if1 .left, l .if2 .left))
+    (search proves)
 
 -- byte 18
 returns-9 : tie.Need-returns-9
 unfolding firstFault
 returns-9 c =
-    let l = c .before .before .before .before .before .before .before .before .before .before .before .before .before .before in
-    let at = l .before .before .before .before .before .before .args in
-    let read = l .before .before .before .before .read-areas .ensures in
     rw (
-      in-order (at .e) (at .image .now) (l .before .before .before .mark-right .ensures) (l .before .locks-right .ensures) read,
+      from-12 (c .before .before .before .before .before .before .before .before .before .before .before .before .before .before),
       kept (c .before .before .before .before .before .before .before .end-rules .ensures) (c .before .before .before .before .before .before .if6 .left),
       kept (c .before .before .before .end-rules2 .ensures) (c .before .before .if8 .left),
     )
-    (search (proves, l .before .before .if1 .left, l .if2 .left))
+    (search proves)
 
 -- none of these: what the reserved bytes give
 returns-10 : tie.Need-returns-10
@@ -116,13 +117,9 @@ returns-10 c =
     let third = c .before .before .before .before in
     let second = third .before .before .before .before in
     let l = second .before .before .before .before .before .before .before in
-    let at = l .before .before .before .before .before .before .args in
-    let read = l .before .before .before .before .read-areas in
-    let mark = kept (l .before .before .before .mark-right .ensures) (l .before .before .if1 .left) in
-    let locks = kept (l .before .locks-right .ensures) (l .if2 .left) in
     rw (
-      in-order (at .e) (at .image .now) (sym mark) (sym locks) (read .ensures),
-      all-kept (at .e) (read .result)
+      from-12 l,
+      all-kept (l .before .before .before .before .before .before .args .e) (l .before .before .before .before .read-areas .result)
           (second .before .before .before .before .before .if3 .left)
           (second .before .before .before .if4 .left)
           (second .before .if5 .left)
