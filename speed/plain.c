@@ -541,6 +541,12 @@ static size_t inventory_answer(const struct tag *t, uint8_t *room)
     return finish(room, 10);
 }
 
+/* X0h, with X not 0, matches the family X; 00h matches all, any other AFI only itself. */
+static bool afi_matches(uint8_t asked, uint8_t stored)
+{
+    return asked == stored || (asked % 16 == 0 && (asked == 0 || asked / 16 == stored / 16));
+}
+
 static size_t inventory(struct tag *t, uint8_t *room, uint8_t flags, const uint8_t *p, const uint8_t *end)
 {
     uint8_t afi = 0;
@@ -554,7 +560,7 @@ static size_t inventory(struct tag *t, uint8_t *room, uint8_t flags, const uint8
     uint8_t mask_len = *p++;
     if (mask_len > (flags & ONE_SLOT ? 64 : 60) || end - p != (mask_len + 7) / 8)
         return 0;
-    if (t->state == QUIET || (afi != 0 && afi != t->afi))
+    if (t->state == QUIET || !afi_matches(afi, t->afi))
         return 0;
     uint64_t mask = 0;
     for (int shift = 0; p < end; shift += 8)

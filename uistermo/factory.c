@@ -8,7 +8,7 @@
 
 static const char help[] =
     "Writes the image of a factory tag: memory, passwords, locks, AFI and DSFID are zero, and all blocks are Area 1, which\n"
-    "everyone reads and writes.\n"
+    "everyone reads and writes. Requests of a session alter them: see bin/uistermo run --help.\n"
     "\n"
     "  16|64   the size: 16 Kbit (512 blocks, 2,048 bytes) or 64 Kbit (2,048 blocks, 8,192 bytes)\n"
     "  UID     16 hex digits, highest byte first, as on a label (answers have it lowest byte first); spaces and colons between\n"

@@ -25,10 +25,21 @@ static const char help[] =
     "the old one and then in its place: after an interrupt, or where lines cannot be read, answers not be printed or the image\n"
     "not be written, the old one is as it was.\n"
     "\n"
+    "An Inventory may ask for an AFI, a byte that says what a tag is for. 36013000 does: flags 36h, code 01h, AFI 30h, mask length\n"
+    "00h. A tag that is not meant stays silent:\n"
+    "  asked for      meant are the tags with\n"
+    "  00h            any AFI\n"
+    "  X0h, X not 0   an AFI of X0h to XFh: of 30h those with 30h to 3Fh\n"
+    "  any other      that AFI alone\n"
+    "022735 writes the AFI 35h. A factory tag has 00h: an Inventory for 00h finds it, or one without an AFI, as 260100. Flags 16h\n"
+    "ask with 16 slots: without a mask a tag answers in the slot of the last digit of its UID. Slot 0 is the request's own line,\n"
+    "and each EOF the next slot. An Inventory with a byte too few or too many meets silence too, as does every request before ON.\n"
+    "\n"
     "Examples:\n"
     "  bin/uistermo factory 16 E002230401D6C8F0 tag.img\n"
     "  bin/uistermo run tag.img examples/session.txt\n"
-    "  printf 'ON\\n022107AABBCCDD\\n022007\\n' | bin/uistermo run tag.img --out next.img\n";
+    "  printf 'ON\\n022107AABBCCDD\\n022007\\n' | bin/uistermo run tag.img --out next.img\n"
+    "  printf 'ON\\n022735\\n36013000\\n' | bin/uistermo run tag.img\n";
 
 /* ---- interrupts */
 

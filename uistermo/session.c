@@ -122,6 +122,6 @@ void say_formless(const struct session *s, const char *name)
     if (s->formless > 0)
         fprintf(stderr,
                 "uistermo: %s: lines of no form: %" PRIu64 " of %" PRIu64 ", the first is line %" PRIu64
-                "%s; a line is ON, OFF, EOF or upper-case hex, and ends in a newline alone\n",
+                "%s; a line is ON, OFF, EOF or upper-case hex, 2 to 128 digits, an even number, and ends in a newline alone\n",
                 name, s->formless, s->number, s->first, s->first_has_return ? ", which ends in a carriage return" : "");
 }

@@ -24,6 +24,7 @@ static const char help[] =
     "A file with a 00h byte among its first 8,257 bytes is taken for an image, any other for a text. In a text, spaces, tabs and\n"
     "carriage returns at a line's ends and empty lines are passed over. A line that is no UID is named by its number, and the exit\n"
     "status is 2; from a keyboard it is named and not taken, and the others are. A tray has at most 256 tags, no two of one UID.\n"
+    "The reader asks for no AFI: tags of any AFI are found.\n"
     "The search of --trace is what the tags answered. Each request has its number, its frame in hex with its CRC, its mask (the\n"
     "digits that a UID has to end in to be meant, - for all) and a sign for each slot, from 0 to 15: . nobody, 1 one answer,\n"
     "* a collision, of two or more. Below it, further in, stand the slots with an answer: the UID, or the request sent again.\n"

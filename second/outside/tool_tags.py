@@ -23,7 +23,7 @@ FORM = re.compile(rb"ON|OFF|EOF|([0-9A-F]{2}){1,64}")
 LONGEST_WITH_CR = 129  # the longest request, and a carriage return behind it
 PIECE = 65536
 CARRIAGE_RETURN = ", which ends in a carriage return"
-FORMS = "; a line is ON, OFF, EOF or upper-case hex, and ends in a newline alone"
+FORMS = "; a line is ON, OFF, EOF or upper-case hex, 2 to 128 digits, an even number, and ends in a newline alone"
 
 
 def factory_image(size, uid=SESSION_UID):

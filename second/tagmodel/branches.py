@@ -99,8 +99,9 @@ def event_branches():
     """Inventory, field and end of frame."""
     return (
         under("inventory", "quiet other-mask one-slot no-afi no-mask-length"
-              " mask-too-long.one-slot mask-too-long.16-slots mask-short mask-long"
-              " afi.none-asked afi.zero afi.equal afi.differs closes")
+              " mask-too-long.one-slot mask-too-long.16-slots mask-short mask-long closes")
+        + under("inventory.afi", "none-asked zero family family-itself other-family"
+                " 0Y-itself 0Y-differs XY-itself XY-differs")
         + [f"inventory.slot-{slot}.{does}" for slot in range(16) for does in ("speaks", "waits")]
         + under("on", "was-on was-off") + under("off", "was-on was-off")
         + under("eof", ["nothing", "field-off", "held-success"])

@@ -1,4 +1,4 @@
-"""The Inventory request and its rounds."""
+"""The Inventory request and its rounds; AFI families are document 02's, W-203."""
 
 from .branches import hit
 from .outcomes import SILENCE, success_frame
@@ -11,6 +11,8 @@ ONE_SLOT_FLAG = 0x20
 
 LONGEST_MASK_ONE_SLOT = 64
 LONGEST_MASK_16_SLOTS = 60
+
+UPPER_HALF, LOWER_HALF = 0xF0, 0x0F  # of an AFI
 
 
 def receive(record, flags, fields):
@@ -56,15 +58,27 @@ def parse(flags, fields):
 
 
 def afi_matches(asked, stored):
-    """'Request AFI matches if it is 00h or equals the stored AFI.'"""
+    """'00h still matches all, and 0Yh only itself'; X0h has a family; for XYh, as in 01, it 'equals the stored AFI'."""
     if asked is None:
         hit("inventory.afi.none-asked")
         return True
     if asked == 0x00:
         hit("inventory.afi.zero")
         return True
-    hit("inventory.afi.equal" if asked == stored else "inventory.afi.differs")
+    if not asked & LOWER_HALF:
+        return is_of_family(asked, stored)
+    halves = "XY" if asked & UPPER_HALF else "0Y"
+    hit(f"inventory.afi.{halves}-itself" if asked == stored else f"inventory.afi.{halves}-differs")
     return asked == stored
+
+
+def is_of_family(asked, stored):
+    """'a request of X0h, with X not 0, match every stored AFI whose upper half is X'."""
+    if stored & UPPER_HALF != asked:
+        hit("inventory.afi.other-family")
+        return False
+    hit("inventory.afi.family-itself" if stored == asked else "inventory.afi.family")
+    return True
 
 
 def mask_matches(uid, mask_length, mask):

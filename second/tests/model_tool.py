@@ -415,7 +415,7 @@ def no_form_text(name, wrong, count):
     has_cr = line.endswith(b"\r") and len(line) <= 129
     return (f"{name}: lines of no form: {len(wrong)} of {count}, the first is line {number}" +
             (", which ends in a carriage return" if has_cr else "") +
-            "; a line is ON, OFF, EOF or upper-case hex, and ends in a newline alone")
+            "; a line is ON, OFF, EOF or upper-case hex, 2 to 128 digits, an even number, and ends in a newline alone")
 
 
 def run(*words):

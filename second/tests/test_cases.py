@@ -11,7 +11,7 @@ from generator.casebook_cases import added_lines, casebook_lines
 from generator.coverage import count_branches
 from generator.dice import Dice
 from generator.streams import casebook_stream, tagrun_stream
-from tagmodel.branches import all_branches, hit
+from tagmodel.branches import COUNTS, all_branches, hit, reset_counts
 from tagmodel.casebook import Casebook
 
 from .support import FOLDER, run_program
@@ -110,6 +110,15 @@ class AddedKinds(unittest.TestCase):
         numbers = {answer.split(" ")[0] for each, answer in zip(lines, self.answers(lines)) if each.startswith(b"LOAD")}
         self.assertEqual(numbers, {"0", "5a:0", "5b:11", *(f"5c:{place}" for place in (12, 14, 16, 18)),
                                    *(f"5d:{place}" for place in (13, 15, 17)), *(f"5e:{place}" for place in range(51, 64))})
+
+    def test_fresh_cases_have_families(self):
+        """Six turns of any seed reach each way that the comparison of two AFIs can go."""
+        wanted = [name for name in all_branches() if name.startswith("inventory.afi.") and not name.endswith("none-asked")]
+        with mock.patch.object(casebook_cases, "ADDED", casebook_cases.ADDED[3:]):
+            for seed in range(1, 10):
+                reset_counts()
+                self.answers(added_lines(seed, 6))
+                self.assertEqual([name for name in wanted if not COUNTS[name]], [], seed)
 
     def test_other_seeds_have_others(self):
         self.assertEqual(len({b"".join(added_lines(seed, 1)) for seed in range(1, 30)}), 29)

@@ -58,10 +58,11 @@ class OneSlot(unittest.TestCase):
 
 
 class Afi(unittest.TestCase):
-    def test_zero_or_equal(self):
-        """30h does not match 35h in the base."""
-        cases = (("00", 0x35, True), ("35", 0x35, True), ("30", 0x35, False), ("05", 0x35, False),
-                 ("35", 0x00, False), ("00", 0x00, True), ("36", 0x35, False))
+    def test_zero_family_or_equal(self):
+        """30h matches 35h since W-203; 05h does not, and what is stored names no family."""
+        cases = (("00", 0x35, True), ("35", 0x35, True), ("30", 0x35, True), ("30", 0x30, True), ("05", 0x35, False),
+                 ("40", 0x35, False), ("35", 0x30, False), ("35", 0x00, False), ("30", 0x00, False), ("00", 0x00, True),
+                 ("36", 0x35, False), ("05", 0x05, True))
         for asked, stored, matches in cases:
             tag = Tag(afi=stored)
             self.assertEqual(tag.send(f"3601{asked}00"), ANSWER if matches else SILENT)

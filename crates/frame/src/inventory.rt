@@ -10,7 +10,8 @@ ghost use Prim.Native.Nat.{_-_, _/_, _%_, _^_};
 ghost use lib.ListN.{getD};
 ghost use Rattle.put.specs.Number.{numberAt};
 ghost use Rattle.tag.specs.Frame.{endOf};
-ghost use Rattle.tag.specs.Inventory.{oneSlot, inventoryFields, maskAt, maskLength, maskTooLong, wrongLength, afiFits, maskFits, slotOf, unheard};
+ghost use Rattle.tag.specs.Inventory.{oneSlot, inventoryFields, maskAt, maskLength, maskTooLong, wrongLength};
+ghost use Rattle.tag.specs.Inventory.{afiMatches, afiFits, maskFits, slotOf, unheard};
 
 // How many bytes the fields have.
 fn fields_length(frame: &[u8]) -> usize
@@ -89,12 +90,22 @@ fn wrong_length(frame: &[u8]) -> bool
     !(fields_length(frame) == at + 1 + (mask + 7) / 8)
 }
 
-// "Request AFI matches if it is 00h or equals the stored AFI."
+// 02: "ISO/IEC 15693-3 lets a request of X0h, with X not 0, match every stored AFI whose upper half is X. 00h still matches all, and 0Yh only
+// itself." Of every other request 01: "Request AFI matches if it is 00h or equals the stored AFI."
+fn afi_matches(asked: u8, stored: u8) -> bool
+    ensures { λ r. ⌜ r ≡ afiMatches asked stored ⌝ }
+{
+    if !(asked / 16 == 0) & (asked % 16 == 0) {
+        return stored / 16 == asked / 16;
+    }
+    (asked == 0x00) | (asked == stored)
+}
+
+// "AFI if bit 5 is set"
 fn afi_fits(front: Front, frame: &[u8]) -> bool
     ensures { λ r. ⌜ r ≡ afiFits front (now (frame .entry)) ⌝ }
 {
-    let asked = field(frame, 0);
-    !flag_bit(frame, 5) | ((asked == 0x00) | (asked == front.afi))
+    !flag_bit(frame, 5) | afi_matches(field(frame, 0), front.afi)
 }
 
 // The lowest bits of a number, so many.

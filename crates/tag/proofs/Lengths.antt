@@ -6,13 +6,12 @@ use mathlib.Core.Logic.{_⊎_, inl, inr}
 use mathlib.Core.Bool.{Bool, true, false}
 use mathlib.Core.List.{List, [], _∷_, _++_}
 use native.Mathlib.Omega.{arith}
-use lib.ListN.{length, replicate, length-append}
+use lib.ListN.{length, replicate}
 use lib.Dec.{eqb}
 use borrow.Author.Tests.{le-leb}
 use Rattle.put.specs.Number.{numberAt, bytesOf}
 use Rattle.put.proofs.Numbers.{length-bytes}
 use Rattle.crc.specs.Crc.{crcBit, crcBits, crcByte, crcFrom, crcOf, crcBytes}
-use Rattle.crc.proofs.Bytes.{crc-length}
 use Rattle.rights.specs.declared.View.{View}
 use Rattle.rights.specs.declared.Verdict.{Verdict}
 use Rattle.rights.specs.declared.Verdict.the-variants.{Success, Error}
@@ -37,6 +36,7 @@ use Rattle.tag.specs.Image.{factory}
 use Rattle.tag.specs.Host.{isMemory, leastRoom}
 use Rattle.tag.specs.Cases.{bytes, ours, withField}
 use Rattle.tag.proofs.Sizes.{memory-bounds}
+use Rattle.tag.proofs.Sealed.{sealed-length}
 use Rattle.tag.proofs.Listing.{listing-within, listing-whole, statuses-within}
 use Rattle.tag.proofs.Came.{Asked, InField, Came, came}
 use Rattle.tag.proofs.Came as shape
@@ -48,9 +48,6 @@ carried silence = []
 carried (verdict Success) = []
 carried (verdict (Error c)) = c ∷ []
 carried (body b) = b
-
-sealed-length : (s : List ℕ) → length (sealed s) ≡ length s + 2
-sealed-length s = simp (length-append, crc-length)
 
 line-most : (a : Answer) → length (lineOf a) ≤ length (carried a) + 3
 line-most silence = omega arith

@@ -13,6 +13,7 @@ pub mod Alters
 pub mod Calls
 pub mod Listing
 pub mod Writes
+pub mod Sealed
 pub mod Lengths
 pub mod Ranges
 pub mod Bytes
@@ -32,3 +33,4 @@ pub mod Demand3
 pub mod SecretExamples
 pub mod Refused
 pub mod Faults
+pub mod Families

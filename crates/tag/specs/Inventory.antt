@@ -41,9 +41,23 @@ maskTooLong f = ltb (if oneSlot f then 64 else 60) (maskLength f)
 unfoldable pub wrongLength : List ℕ → Bool
 wrongLength f = not (eqb (endOf f - 2) (maskAt f + 1 + (maskLength f + 7) / 8))
 
--- "Request AFI matches if it is 00h or equals the stored AFI."
+-- the halves of a byte XYh: X is the upper one, Y the lower
+abbrev pub upperHalf : ℕ → ℕ
+upperHalf b = b / 16
+
+abbrev pub lowerHalf : ℕ → ℕ
+lowerHalf b = b % 16
+
+-- 02: "a request of X0h, with X not 0"
+abbrev pub asksFamily : ℕ → Bool
+asksFamily asked = not (eqb (upperHalf asked) 0) && eqb (lowerHalf asked) 0
+
+-- 02: "ISO/IEC 15693-3 lets a request of X0h, with X not 0, match every stored AFI whose upper half is X. 00h still matches all, and 0Yh only
+-- itself." Of every other request 01's rule stays: "Request AFI matches if it is 00h or equals the stored AFI."
 unfoldable pub afiMatches : ℕ → ℕ → Bool
-afiMatches asked stored = eqb asked 0x00 || eqb asked stored
+afiMatches asked stored =
+    if asksFamily asked then eqb (upperHalf stored) (upperHalf asked) else
+    eqb asked 0x00 || eqb asked stored
 
 unfoldable pub afiFits : Front → List ℕ → Bool
 afiFits t f = not (afiFlag f) || afiMatches (getD (inventoryFields f) 0 0) (t .afi)

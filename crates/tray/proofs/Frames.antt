@@ -6,60 +6,37 @@ use mathlib.Core.List.{List, _∷_}
 use Prim.Native.Nat.{ℕ, zero, suc, _+_, _*_, _-_, _/_, _^_, _≤_, _<_}
 use native.Mathlib.Nat.{mod-eq-of-lt, lt-of-lt-of-le}
 use native.Mathlib.Omega.{arith}
-use lib.ListN.{length, take, drop, length-append, List·getD-eq-default}
-use lib.Seq.{take-at, drop-at}
+use lib.ListN.{length, List·getD-eq-default}
 use lib.Pow.{pow-mono}
 use borrow.Author.Tests.{eq-eqb, le-ltb}
 use Rattle.put.specs.Number.{numberAt, bytesOf}
 use Rattle.put.proofs.Numbers.{in-parts, length-bytes}
 use Rattle.put.proofs.RoundTrips.{number-of-bytes, number-after}
-use Rattle.crc.specs.Crc.{crcOf, crcBytes}
-use Rattle.crc.proofs.Bytes.{crc-length}
 use Rattle.record.specs.declared.Front.{Front}
 use Rattle.record.specs.declared.State.the-variants.{Ready}
 use Rattle.record.specs.declared.Round.the-variants as round
 use Rattle.record.specs.Update.{withRound}
 use Rattle.tag.specs.declared.Heard.the-variants as told
-use Rattle.tag.specs.Frame.{endOf, check2, check3, check4, heardOf}
+use Rattle.tag.specs.Frame.{endOf, heardOf}
 use Rattle.tag.specs.Work.{work, silence, says}
 use Rattle.tag.specs.Inventory.{fits, inventoryFields, maskLength, maskTooLong, wrongLength, afiFits, maskFits, unheard, inventoryOf, inSlot}
 use Rattle.tag.specs.Step.{sealed}
+use Rattle.tag.proofs.Sealed.{sealed-fields, sealed-fields-length, sealed-inventory}
 use Rattle.tray.specs.Tray.{Request}
 use Rattle.tray.specs.Tags.{askBytes, askFrame, Proper}
 use Rattle.tray.proofs.Slots.{in-bits}
-
--- ---- a sealed frame
-
-sealed-end : (s : List ℕ) → endOf (sealed s) ≡ length s
-sealed-end s = simp (length-append, crc-length) (omega arith)
-
-crc-number : (s : List ℕ) → numberAt 2 (crcBytes s) 0 ≡ crcOf s
-unfolding numberAt crcBytes
-crc-number s = omega arith
-
--- a sealed frame passes check 2
-pub sealed-passes : (s : List ℕ) → 2 ≤ length s → check2 (sealed s) ≡ false
-unfolding check2
-sealed-passes s h =
-    let l : 4 ≤ length (sealed s) = simp (length-append, crc-length) (omega arith) in
-    let t : take (length s) (sealed s) ≡ s = take-at s (crcBytes s) (length s) refl in
-    let d : drop (length s) (sealed s) ≡ crcBytes s = drop-at s (crcBytes s) (length s) refl in
-    rw (le-ltb (length (sealed s)) 4 l, sealed-end s, t, d, crc-number s, eq-eqb (crcOf s) (crcOf s) refl)
 
 -- ---- the search's frame
 
 module _ (bits : ℕ) (bs : List ℕ) where
   told-start : (t : Front) → heardOf t (sealed (askBytes bits bs)) ≡ told.Inventory
-  unfolding heardOf check3 check4
-  told-start t = rw (sealed-passes (askBytes bits bs) (omega arith))
+  told-start t = sealed-inventory _ (bits ∷ bs) refl refl refl t
 
   its-fields : inventoryFields (sealed (askBytes bits bs)) ≡ bits ∷ bs
-  its-fields =
-      let q : suc (suc (suc (length bs))) - 2 ≡ suc (length bs) = omega arith in
-      rw (sealed-end (askBytes bits bs), q) (take-at (bits ∷ bs) (crcBytes (askBytes bits bs)) (suc (length bs)) refl)
+  its-fields = sealed-fields _ _ (bits ∷ bs)
 
   its-length : endOf (sealed (askBytes bits bs)) - 2 ≡ 1 + length bs
-  its-length = rw (sealed-end (askBytes bits bs)) (omega arith)
+  its-length = sealed-fields-length _ _ (bits ∷ bs) ∙ omega arith
 
 -- it is heard as an Inventory
 pub told-inventory : (q : Request) (t : Front) → heardOf t (askFrame q) ≡ told.Inventory

@@ -23,6 +23,7 @@ use Rattle.tag.specs.Rules.{blocksOf}
 use Rattle.tag.specs.Work.{Answer, Work, work, silence, verdict, says, perform}
 use Rattle.tag.specs.Inventory.{nextFour, fits, unheard, oneSlot, inventoryOf, inventoryAnswer, maskLength, inSlot, slotOf, nextSlot}
 use Rattle.tag.specs.Step.{Event, endOfFrame, request, lineOf, dropped, frameOf, frameEnds, roundEnds, workOf, step, run, Stepped}
+use Rattle.tag.proofs.Sealed.{saying, inventory-step}
 use Rattle.tray.specs.Tray.{Request, speaksIn, those, answering, requestsSent, Each, none, more}
 use Rattle.tray.specs.Tags.{askFrame, Proper, ends, upTo, rounds, Waits, saidIn, saidFrom, lastOf, isSilence, still}
 use Rattle.tray.specs.Tags.{Placed, Holds, empty, another, speaking}
@@ -30,9 +31,6 @@ use Rattle.tray.proofs.Sent.{each-both, each-proper}
 use Rattle.tray.proofs.Frames.{told-inventory, asked-fits, asked-not}
 
 -- ---- one step
-
-abbrev saying : Tag → List ℕ → Front → List ℕ → Stepped
-saying t m f a = record { answer = a; tag = withFront t f; memory = m }
 
 -- a front with a round open in a slot
 abbrev openAt : Front → ℕ → ℕ → Front
@@ -42,8 +40,7 @@ module _ (t : Tag) (m : List ℕ) (f : Front) (on : f .field ≡ true) where
   -- the frame
   asks-frame : (q : Request) (w : Front) (a : Answer) → inventoryOf (dropped f) (askFrame q) ≡ work w (says a)
       → step (withFront t f) m (request (askFrame q)) ≡ saying t m w (lineOf a)
-  unfolding step workOf frameOf perform
-  asks-frame q w a e = rw (if-true _ _ on, told-inventory q (dropped f), e)
+  asks-frame q w a e = inventory-step (withFront t f) m (askFrame q) w a on (told-inventory q (dropped f)) e
 
   -- the end of a frame, in an open round and with none
   next-end : (slot bits : ℕ) → slot < 15

@@ -85,8 +85,9 @@ CASES = (
             request("36013500", SILENCE))),
     Case(
         "request-afi-family", "Request AFI matches if it is 00h or equals the stored AFI.",
-        "were a digit 0 to match any, as ISO/IEC 15693-3 has it, 20h and 05h would find AFI 25h",
-        standing(SMALL, {AFI: 0x25}) + (request("36012000", SILENCE), request("36010500", SILENCE))),
+        "changed by W-203: 20h finds AFI 25h, which by these words alone it would not; were a 0 in either half to match "
+        "any, 05h would find it too",
+        standing(SMALL, {AFI: 0x25}) + (request("36012000", ANSWER), request("36010500", SILENCE))),
     Case(
         "stored-afi-zero", "Request AFI matches if it is 00h or equals the stored AFI.",
         "were a stored 00h to match any request, the first would answer; were a tag with an AFI silent where none is "
