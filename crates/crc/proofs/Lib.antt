@@ -1,3 +1,4 @@
 pub mod Samples
+pub mod Halves
 pub mod Steps
 pub mod Bytes

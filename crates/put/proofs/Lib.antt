@@ -1,6 +1,7 @@
 pub mod Proves
 pub mod If
 pub mod Bits
+pub mod Xor
 pub mod Lists
 pub mod Written
 pub mod Numbers

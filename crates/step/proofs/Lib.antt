@@ -1,3 +1,4 @@
 pub mod Room
+pub mod Unsealed
 pub mod Acts
 pub mod Rows

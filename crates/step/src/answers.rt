@@ -1,4 +1,4 @@
-// Answers, written into the lent room with their CRC: "Success begins 00h; an error is 01h, code; CRC follows."
+// Answers, written into the lent room: "Success begins 00h; an error is 01h, code; CRC follows." `seal` puts the CRC to each of them, last.
 use super::Said;
 use record::Front;
 use record::Held;
@@ -11,43 +11,45 @@ ghost use Rattle.put.specs.Put.{Put};
 ghost use Rattle.rights.specs.Verdict.{afterVerdict};
 ghost use Rattle.put.specs.Number.{bytesOf};
 ghost use Rattle.tag.specs.Inventory.{inventoryAnswer};
-ghost use Rattle.tag.specs.Work.{verdict, body, says};
-ghost use Rattle.tag.specs.Step.{sealed, lineOf};
-ghost use Rattle.step.specs.Gives.{Does};
+ghost use Rattle.tag.specs.Work.{verdict, error, body, says};
+ghost use Rattle.step.specs.Gives.{sealedUnlessSilent, unsealedOf, Does};
 
-// The CRC of the first n bytes goes after them.
-fn seal(n: usize, room: &mut [u8]) -> usize
+// "CRC follows.": the CRC of the first n bytes goes after them. Silence, of no bytes, stays silence.
+pub fn seal(n: usize, room: &mut [u8]) -> usize
     requires { ⌜ n + 2 ≤ length (now room) ⌝ }
-    ensures { λ r. ⌜ Put (sealed (take n (now (room .entry)))) (now (room .entry)) (now (room .exit)) r ⌝ }
+    ensures { λ r. ⌜ Put (sealedUnlessSilent (take n (now (room .entry)))) (now (room .entry)) (now (room .exit)) r ⌝ }
 {
+    if n == 0 {
+        return 0;
+    }
     let c = crc::crc_bytes(&room[..n]);
     room[n] = c[0];
     room[n + 1] = c[1];
     n + 2
 }
 
-// "Success begins 00h": the flags byte before a body of n bytes that stands from the second byte on, and the CRC after it.
+// "Success begins 00h": the flags byte before a body of n bytes that stands from the second byte on.
 pub fn put_success(n: usize, room: &mut [u8]) -> usize
     requires { ⌜ n + 3 ≤ length (now room) ⌝ }
-    ensures { λ r. ⌜ Put (sealed (0 ∷ take n (drop 1 (now (room .entry))))) (now (room .entry)) (now (room .exit)) r ⌝ }
+    ensures { λ r. ⌜ Put (unsealedOf (body (take n (drop 1 (now (room .entry)))))) (now (room .entry)) (now (room .exit)) r ⌝ }
 {
     room[0] = 0x00;
-    seal(n + 1, room)
+    n + 1
 }
 
 // "an error is 01h, code"
 fn put_error(code: u8, room: &mut [u8]) -> usize
     requires { ⌜ 4 ≤ length (now room) ⌝ }
-    ensures { λ r. ⌜ Put (sealed (1 ∷ code ∷ [])) (now (room .entry)) (now (room .exit)) r ⌝ }
+    ensures { λ r. ⌜ Put (unsealedOf (error code)) (now (room .entry)) (now (room .exit)) r ⌝ }
 {
     room[0] = 0x01;
     room[1] = code;
-    seal(2, room)
+    2
 }
 
 fn put_verdict(v: Verdict, room: &mut [u8]) -> usize
     requires { ⌜ 4 ≤ length (now room) ⌝ }
-    ensures { λ r. ⌜ Put (lineOf (verdict v)) (now (room .entry)) (now (room .exit)) r ⌝ }
+    ensures { λ r. ⌜ Put (unsealedOf (verdict v)) (now (room .entry)) (now (room .exit)) r ⌝ }
 {
     match v {
         Verdict::Success => put_success(0, room),
@@ -57,7 +59,7 @@ fn put_verdict(v: Verdict, room: &mut [u8]) -> usize
 
 pub fn put_register(value: u8, room: &mut [u8]) -> usize
     requires { ⌜ 4 ≤ length (now room) ⌝ }
-    ensures { λ r. ⌜ Put (lineOf (body (value ∷ []))) (now (room .entry)) (now (room .exit)) r ⌝ }
+    ensures { λ r. ⌜ Put (unsealedOf (body (value ∷ []))) (now (room .entry)) (now (room .exit)) r ⌝ }
 {
     room[1] = value;
     put_success(1, room)
@@ -72,10 +74,10 @@ fn put_identity(f: Front, out: &mut [u8]) -> usize
     1 + put::put_number(f.uid, 8, &mut out[1..])
 }
 
-// "Answer: 00h, DSFID, UID, CRC."
+// "Answer: 00h, DSFID, UID, CRC.", before its CRC.
 pub fn put_inventory(f: Front, room: &mut [u8]) -> usize
     requires { ⌜ 12 ≤ length (now room) ⌝ }
-    ensures { λ r. ⌜ Put (lineOf (inventoryAnswer f)) (now (room .entry)) (now (room .exit)) r ⌝ }
+    ensures { λ r. ⌜ Put (unsealedOf (inventoryAnswer f)) (now (room .entry)) (now (room .exit)) r ⌝ }
 {
     let n = put_identity(f, &mut room[1..]);
     put_success(n, room)

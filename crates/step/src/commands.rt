@@ -32,9 +32,9 @@ ghost use Rattle.tag.specs.Table.{firstOf, moreOf, headOf, dataOf, limitOf};
 ghost use Rattle.tag.specs.Work.{body, afi, afiLock, dsfid, dsfidLock, register, password, presents, writes, listing, perform};
 ghost use Rattle.tag.specs.Blocks.{granted, readOf, statuses, statusOf, writeOf, lockOf};
 ghost use Rattle.tag.specs.Commands.{unless, registerAnswer, isHolding, requestOf};
-ghost use Rattle.tag.specs.Step.{lineOf, performed};
+ghost use Rattle.tag.specs.Step.{performed};
 ghost use Rattle.tag.specs.Host.{isMemory};
-ghost use Rattle.step.specs.Gives.{Gives, Does, concluded, DataThere};
+ghost use Rattle.step.specs.Gives.{unsealedOf, GivesUnsealed, Does, concluded, DataThere};
 
 fn unless_locked(locked: bool, code: u8) -> Verdict
     ensures { λ r. ⌜ r ≡ unless locked code ⌝ }
@@ -172,7 +172,7 @@ fn put_listing(
 ) -> usize
     requires { ⌜ 4 * limit ≤ length (now memory) ⌝ }
     requires { ⌜ 5 * limit + 3 ≤ length (now room) ⌝ }
-    ensures { λ r. ⌜ Put (lineOf (body (listing v (now (memory .entry)) limit first count status))) (now (room .entry)) (now (room .exit)) r ⌝ }
+    ensures { λ r. ⌜ Put (unsealedOf (body (listing v (now (memory .entry)) limit first count status))) (now (room .entry)) (now (room .exit)) r ⌝ }
 {
     let n = blocks::read_blocks(v, memory, limit, first, count, status, &mut room[1..]);
     put_success(n, room)
@@ -180,7 +180,7 @@ fn put_listing(
 
 fn put_statuses(v: View, limit: usize, first: u16, count: u32, room: &mut [u8]) -> usize
     requires { ⌜ limit + 3 ≤ length (now room) ⌝ }
-    ensures { λ r. ⌜ Put (lineOf (body (statuses v limit first count))) (now (room .entry)) (now (room .exit)) r ⌝ }
+    ensures { λ r. ⌜ Put (unsealedOf (body (statuses v limit first count))) (now (room .entry)) (now (room .exit)) r ⌝ }
 {
     let n = blocks::read_statuses(v, limit, first, count, &mut room[1..]);
     put_success(n, room)
@@ -198,7 +198,7 @@ fn read(
 ) -> Said
     requires { ⌜ length (now memory) ≤ 8192 ⌝ }
     requires { ⌜ 10243 ≤ length (now room) ⌝ }
-    ensures { λ s. ⌜ Gives (concluded hold (perform t (now (memory .entry)) (readOf (viewOf (t .vault))
+    ensures { λ s. ⌜ GivesUnsealed (concluded hold (perform t (now (memory .entry)) (readOf (viewOf (t .vault))
         (limitOf e (blocksOf (now (memory .entry)))) (firstOf e (now (fields .entry))) (moreOf e (now (fields .entry)) + 1) option)))
         (now (room .entry)) (now (memory .entry)) (now (room .exit)) s ⌝ }
 {
@@ -253,7 +253,7 @@ fn is_granted(v: Verdict) -> bool
 fn write(t: Tag, e: Entry, hold: bool, fields: &[u8], memory: &mut [u8], room: &mut [u8]) -> Said
     requires { ⌜ headOf e + 4 * (moreOf e (now fields) + 1) ≤ length (now fields) ⌝ }
     requires { ⌜ 4 ≤ length (now room) ⌝ }
-    ensures { λ s. ⌜ Gives (concluded hold (perform t (now (memory .entry)) (writeOf (viewOf (t .vault))
+    ensures { λ s. ⌜ GivesUnsealed (concluded hold (perform t (now (memory .entry)) (writeOf (viewOf (t .vault))
         (limitOf e (blocksOf (now (memory .entry)))) (firstOf e (now (fields .entry))) (moreOf e (now (fields .entry)))
         (dataOf e (now (fields .entry)))))) (now (room .entry)) (now (memory .exit)) (now (room .exit)) s ⌝ }
 {
@@ -322,7 +322,7 @@ pub fn execute(
     requires { ⌜ isMemory (now memory) ≡ true ⌝ }
     requires { ⌜ 10243 ≤ length (now room) ⌝ }
     requires { ⌜ DataThere e (now fields) ⌝ }
-    ensures { λ s. ⌜ Gives (performed t (now (memory .entry)) (requestOf (t .front) (viewOf (t .vault)) (blocksOf (now (memory .entry))) e option
+    ensures { λ s. ⌜ GivesUnsealed (performed t (now (memory .entry)) (requestOf (t .front) (viewOf (t .vault)) (blocksOf (now (memory .entry))) e option
         (now (fields .entry)))) (now (room .entry)) (now (memory .exit)) (now (room .exit)) s ⌝ }
 {
     let hold = holds(e, option);

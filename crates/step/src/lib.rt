@@ -4,6 +4,7 @@ mod answers; // answers.rt: answers as they are written, at once or held
 mod commands; // commands.rt: what each command does
 mod rounds; // rounds.rt: Inventory and its rounds, the end of a frame
 
+use answers::seal;
 use answers::settle;
 use commands::execute;
 use commands::moved;
@@ -26,9 +27,9 @@ ghost use Rattle.record.specs.Update.{withFront, passingCleared, sessionless};
 ghost use Rattle.tag.specs.Rules.{blocksOf};
 ghost use Rattle.tag.specs.Step.{dropped, eventOf, frameOf, performed, step};
 ghost use Rattle.tag.specs.Host.{isMemory};
-ghost use Rattle.step.specs.Gives.{Gives};
+ghost use Rattle.step.specs.Gives.{Gives, GivesUnsealed};
 
-// The length of the answer, 0 for silence, and the record after it.
+// The length of the answer, 0 for silence, and the record after it. `step` alone gives it with the CRC: in what it calls the answer has none yet.
 pub struct Said {
     pub length: usize,
     pub tag: Tag,
@@ -47,7 +48,7 @@ fn drop_round(t: Tag) -> Tag
 fn take_frame(t: Tag, frame: &[u8], memory: &mut [u8], room: &mut [u8]) -> Said
     requires { ⌜ isMemory (now memory) ≡ true ⌝ }
     requires { ⌜ 10243 ≤ length (now room) ⌝ }
-    ensures { λ s. ⌜ Gives (performed t (now (memory .entry)) (frameOf (t .front) (viewOf (t .vault)) (blocksOf (now (memory .entry)))
+    ensures { λ s. ⌜ GivesUnsealed (performed t (now (memory .entry)) (frameOf (t .front) (viewOf (t .vault)) (blocksOf (now (memory .entry)))
         (now (frame .entry)))) (now (room .entry)) (now (memory .exit)) (now (room .exit)) s ⌝ }
 {
     let f = t.front;
@@ -82,10 +83,11 @@ fn field_on(t: Tag) -> Tag
     record::power(t, true)
 }
 
-pub fn step(t: Tag, kind: Kind, frame: &[u8], memory: &mut [u8], room: &mut [u8]) -> Said
+// An event, with its answer before the CRC.
+fn take_event(t: Tag, kind: Kind, frame: &[u8], memory: &mut [u8], room: &mut [u8]) -> Said
     requires { ⌜ isMemory (now memory) ≡ true ⌝ }
     requires { ⌜ 10243 ≤ length (now room) ⌝ }
-    ensures { λ s. ⌜ Gives (step t (now (memory .entry)) (eventOf kind (now (frame .entry)))) (now (room .entry))
+    ensures { λ s. ⌜ GivesUnsealed (step t (now (memory .entry)) (eventOf kind (now (frame .entry)))) (now (room .entry))
         (now (memory .exit)) (now (room .exit)) s ⌝ }
 {
     let f = t.front;
@@ -110,5 +112,21 @@ pub fn step(t: Tag, kind: Kind, frame: &[u8], memory: &mut [u8], room: &mut [u8]
             }
             Said { length: 0, tag: t }
         }
+    }
+}
+
+// One event. "CRC follows.": it is put to every answer here.
+pub fn step(t: Tag, kind: Kind, frame: &[u8], memory: &mut [u8], room: &mut [u8]) -> Said
+    requires { ⌜ isMemory (now memory) ≡ true ⌝ }
+    requires { ⌜ 10243 ≤ length (now room) ⌝ }
+    ensures { λ s. ⌜ Gives (step t (now (memory .entry)) (eventOf kind (now (frame .entry)))) (now (room .entry))
+        (now (memory .exit)) (now (room .exit)) s ⌝ }
+{
+    let s = take_event(t, kind, frame, memory, room);
+    let n = s.length;
+    let tag = s.tag;
+    Said {
+        length: seal(n, room),
+        tag,
     }
 }

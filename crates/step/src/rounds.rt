@@ -12,13 +12,13 @@ ghost use Prim.Native.Nat.{ℕ, _≤_};
 ghost use lib.ListN.{length};
 ghost use Rattle.put.specs.Put.{Put};
 ghost use Rattle.tag.specs.Inventory.{inSlot, inventoryOf, nextSlot};
-ghost use Rattle.tag.specs.Step.{lineOf, performed, roundEnds, frameEnds};
-ghost use Rattle.step.specs.Gives.{Gives};
+ghost use Rattle.tag.specs.Step.{performed, roundEnds, frameEnds};
+ghost use Rattle.step.specs.Gives.{unsealedOf, GivesUnsealed};
 
 // The answer of a tag whose slot is that of the round, or silence: its length. Only the front is passed, so that no record is copied.
 fn in_slot(f: Front, slot: u8, mask: u8, room: &mut [u8]) -> usize
     requires { ⌜ 12 ≤ length (now room) ⌝ }
-    ensures { λ n. ⌜ Put (lineOf (inSlot f slot mask)) (now (room .entry)) (now (room .exit)) n ⌝ }
+    ensures { λ n. ⌜ Put (unsealedOf (inSlot f slot mask)) (now (room .entry)) (now (room .exit)) n ⌝ }
 {
     if inventory::own_slot(f, mask) == slot {
         return put_inventory(f, room);
@@ -29,7 +29,7 @@ fn in_slot(f: Front, slot: u8, mask: u8, room: &mut [u8]) -> usize
 // "Inventory goes to its own section."
 pub fn take_inventory(t: Tag, frame: &[u8], room: &mut [u8]) -> Said
     requires { ⌜ 12 ≤ length (now room) ⌝ }
-    ensures { λ s. ⌜ ((m : List ℕ) → Gives (performed t m (inventoryOf (t .front) (now (frame .entry))))
+    ensures { λ s. ⌜ ((m : List ℕ) → GivesUnsealed (performed t m (inventoryOf (t .front) (now (frame .entry))))
         (now (room .entry)) m (now (room .exit)) s) ⌝ }
 {
     let f = t.front;
@@ -52,7 +52,7 @@ pub fn take_inventory(t: Tag, frame: &[u8], room: &mut [u8]) -> Said
 // "each end of frame moves one slot on; an end of frame in slot 15 closes the round"
 fn move_on(t: Tag, slot: u8, mask: u8, room: &mut [u8]) -> Said
     requires { ⌜ 12 ≤ length (now room) ⌝ }
-    ensures { λ s. ⌜ ((m : List ℕ) → Gives (performed t m (nextSlot (t .front) slot mask)) (now (room .entry)) m (now (room .exit)) s) ⌝ }
+    ensures { λ s. ⌜ ((m : List ℕ) → GivesUnsealed (performed t m (nextSlot (t .front) slot mask)) (now (room .entry)) m (now (room .exit)) s) ⌝ }
 {
     let f = t.front;
     if slot < 15 {
@@ -72,7 +72,7 @@ fn move_on(t: Tag, slot: u8, mask: u8, room: &mut [u8]) -> Said
 // "holds the answer .. until an end of frame gives it out"
 pub fn end_frame(t: Tag, room: &mut [u8]) -> Said
     requires { ⌜ 12 ≤ length (now room) ⌝ }
-    ensures { λ s. ⌜ ((m : List ℕ) → Gives (performed t m (frameEnds (t .front .held) (t .front))) (now (room .entry)) m (now (room .exit)) s) ⌝ }
+    ensures { λ s. ⌜ ((m : List ℕ) → GivesUnsealed (performed t m (frameEnds (t .front .held) (t .front))) (now (room .entry)) m (now (room .exit)) s) ⌝ }
 {
     let f = t.front;
     let held = f.held;
@@ -87,7 +87,7 @@ pub fn end_frame(t: Tag, room: &mut [u8]) -> Said
 
 fn end_round(t: Tag, room: &mut [u8]) -> Said
     requires { ⌜ 12 ≤ length (now room) ⌝ }
-    ensures { λ s. ⌜ ((m : List ℕ) → Gives (performed t m (roundEnds (t .front .round) (t .front))) (now (room .entry)) m (now (room .exit)) s) ⌝ }
+    ensures { λ s. ⌜ ((m : List ℕ) → GivesUnsealed (performed t m (roundEnds (t .front .round) (t .front))) (now (room .entry)) m (now (room .exit)) s) ⌝ }
 {
     let f = t.front;
     let round = f.round;
