@@ -14,7 +14,7 @@
  *
  * What the host owes:
  * - A pointer points to as many bytes as the length after it says, and record to UISTERMO_RECORD; uids and list to as many entries of 8
- *   bytes, aligned for uint64_t; message to two numbers, aligned for uint32_t. Where a length is 0 its pointer may be NULL.
+ *   bytes, aligned for uint64_t. With length 0 the pointer may be NULL.
  * - The buffers of one call do not overlap.
  * - No other thread touches them during the call.
  * That is all. Any bytes, lengths and numbers are taken: what does not fit is refused, and bytes that are no record are refusal 3.
@@ -55,13 +55,7 @@ extern "C" {
 #define UISTERMO_END_OF_FRAME 2 /* an end of frame: the next slot of a round, or the call for a held answer */
 #define UISTERMO_REQUEST 3      /* a frame */
 
-/* What a user memory is as an NFC Forum Type 5 tag. */
-#define UISTERMO_INITIALISED 1 /* lower half of byte 1 is 0, and the NDEF message has length 0 */
-#define UISTERMO_READ_WRITE 2  /* lower half of byte 1 is 0, and the NDEF message is longer */
-#define UISTERMO_READ_ONLY 3   /* lower half of byte 1 is 1, 2 or 3; the NDEF message is not empty */
-
-/* Refusals. Document 02's 5a to 5e, of an image's header, are 5Ah to 5Eh; each comes with "the lowest offending byte's place". 8, 9 and 10, of a
-   user memory's profile, come "with the place of the byte at fault". */
+/* Refusals. Document 02's 5a to 5e, of an image's header, are 5Ah to 5Eh; each comes with "the lowest offending byte's place". */
 #define UISTERMO_NONE 0                  /* not refused */
 #define UISTERMO_REFUSED_MEMORY 1        /* user memory lent is not 2,048 or 8,192 bytes, or does not fit the image's length */
 #define UISTERMO_REFUSED_ROOM 2          /* answer room is below 10,243 bytes */
@@ -75,15 +69,12 @@ extern "C" {
 #define UISTERMO_REFUSED_RESERVED 0x5E   /* reserved byte: one of the bytes 51 to 63 is not 0 */
 #define UISTERMO_REFUSED_TAGS 6          /* more than 256 tags */
 #define UISTERMO_REFUSED_EQUAL 7         /* two UIDs are equal */
-#define UISTERMO_REFUSED_CONTAINER 8     /* container: byte 0 is not E2h; or the upper half of byte 1 is not 4, or its lower half is over 3 */
-#define UISTERMO_REFUSED_LENGTH 9        /* length: the container and 8 times its length do not fit inside the memory */
-#define UISTERMO_REFUSED_TLV 10          /* TLV or no 03h entry */
 #define UISTERMO_REFUSED_SMALL 18        /* the list's room is too small for all */
 
 /*
  * A result is place * 2^48 + refusal number * 2^32 + length. A call that refuses has length 0 and leaves every byte of record and buffers as it was.
- * The place is counted from 0. With 5a to 5e it is that of a byte of the image, and may be 0. With 8, 9 and 10 it is that of a byte of the user
- * memory; it may be 0, and with 10 it may be the place just after the memory. With every other result it is 0, and means nothing.
+ * The place is that of a byte of the image, counted from 0. It comes with 5a to 5e, where it may be 0; with every other result it is 0, and means
+ * nothing.
  * Earlier versions gave 5 alone for 5a to 5e, and no place; their uistermo_refusal took all upper bits. A host compiled with their header is to be
  * compiled anew.
  */
@@ -132,22 +123,6 @@ uint64_t uistermo_factory(uint8_t record[UISTERMO_RECORD], uint64_t uid, uint8_t
  * first. The search keeps nothing and needs no memory beside the list; it goes at most 16 requests deep.
  */
 uint64_t uistermo_search(const uint64_t *uids, size_t count, uint64_t *list, size_t list_room);
-
-/*
- * Says whether a user memory is a valid profile of an NFC Forum Type 5 tag, and which: the length of the result is UISTERMO_INITIALISED,
- * UISTERMO_READ_WRITE or UISTERMO_READ_ONLY. message becomes place and length of the NDEF message, the value of the first 03h entry; an empty one
- * has the place after its length. Nothing else is touched: the memory is only read. Refused, message stays, and the length is 0.
- * Checks 1, 8, 9, 10 in that order, each of 8 to 10 with a place:
- *   1   "user memory lent is not 2,048 or 8,192 bytes"; no place
- *   8   place 0: byte 0, the mark, is not E2h; place 1: the upper half of byte 1 is not 4, or its lower half is over 3
- *   9   place 6, the length's first byte: bytes 6 and 7, high byte first, are the length where byte 2 is 00h, and the container has eight bytes;
- *       else it has four, and byte 2 is the length. The TLV list is in the area after the container, of 8 times the length
- *   10  the list's lowest byte at fault: of a value that does not fit in the area, its length's first byte; of an entry that lacks a length, or one
- *       of the two bytes after FFh, the area's end, which is the place just after its last byte; where no 03h entry came, the FEh that closes the
- *       list, or the area's end; of a read-only profile whose message is empty, the first byte of its length
- * Byte 3 of the container, of eight also 4 and 5, the bytes of a value, and those after the FEh or the area do not matter.
- */
-uint64_t uistermo_type5(const uint8_t *memory, size_t memory_length, uint32_t message[2]);
 
 #ifdef __cplusplus
 }

@@ -3,16 +3,15 @@
  * counts its instructions. x86-64 only.
  *
  *   measure compiler            prints the version of the compiler
- *   measure MIX TAG name        prints how many calls the mix has, and its name; MIX is a to t, TAG is 16 or 64 (Kbit), 64 alone for c
+ *   measure MIX TAG name        prints how many calls the mix has, and its name; MIX is a to r, TAG is 16 or 64 (Kbit), 64 alone for c
  *   measure MIX TAG search      prints how many tags a search has, and how many requests it sends; MIX is j to r
- *   measure MIX TAG area        prints how many bytes the area of a Type 5 profile has; MIX is s or t
  *   measure MIX TAG SUBJECT N   makes the mix N times; SUBJECT is library, plain, floor or none
  *   measure MIX TAG time        prints the CPU time of an event in ns: floor, plain C, library
  *
- * Before anything is counted or timed, the library makes each call of the mix twice beside plain C, and results, record, memory, room, image, list
- * and message must be equal to the byte. The floor is the CRC of request and answer, by a table of 256 numbers, and one copy of the answer; for
- * loading and saving one copy of the image; for a factory tag one filling of memory and of a header's bytes in the record. None is only `ret`: what
- * it costs is the loop's; so is the floor of a search and of a profile, which have none.
+ * Before anything is counted or timed, the library makes each call of the mix twice beside plain C, and results, record, memory, room, image and
+ * list must be equal to the byte. The floor is the CRC of request and answer, by a table of 256 numbers, and one copy of the answer; for loading and
+ * saving one copy of the image; for a factory tag one filling of memory and of a header's bytes in the record. None is only `ret`: what it costs
+ * is the loop's; so is the floor of a search, which has none.
  * Exit status: 0 all was done, 1 library and plain C differ or a mix does not do what it is for, 2 a wrong word.
  */
 #define _POSIX_C_SOURCE 200809L
@@ -47,7 +46,6 @@ struct lent {
     _Alignas(64) uint8_t room[UISTERMO_ROOM];
     _Alignas(64) uint8_t image[UISTERMO_IMAGE_64K];
     _Alignas(64) uint64_t list[UISTERMO_TAGS + 1];
-    _Alignas(64) uint32_t message[2];
 };
 static struct lent measured, beside; /* beside: what plain C makes of the same calls */
 static _Alignas(64) uint8_t source[UISTERMO_IMAGE_64K]; /* the image that is loaded */
@@ -55,9 +53,7 @@ static const uint64_t uid = 0xE002230401D6C8F7; /* of a factory tag; the image's
 enum { MOST_UIDS = 1000000 };
 static _Alignas(64) uint64_t uids[MOST_UIDS]; /* of the tags that are searched */
 
-enum { LOAD = UISTERMO_REQUEST + 1, SAVE, FACTORY, SEARCH, TYPE5 }; /* beside the kinds of events */
-enum { CONTAINER = 8, ENTRY = 2 };     /* of a profile: its container, and an entry whose value is empty */
-enum { MESSAGE = 0x03, OTHER = 0xFD }; /* and types */
+enum { LOAD = UISTERMO_REQUEST + 1, SAVE, FACTORY, SEARCH }; /* beside the kinds of events */
 
 struct call {
     uint32_t kind;
@@ -69,21 +65,19 @@ static struct call calls[17];
 static size_t count;
 static const struct call *now; /* the call that is being made */
 
-/* Mix (a) comes first. One without a request loads and saves an image, makes a factory tag, searches tags, or asks for a profile. */
+/* Mix (a) comes first. One without a request loads and saves an image, makes a factory tag, or searches tags. */
 static const struct mix {
     const char *name;
     const char *request; /* hex without CRC */
     bool damaged;        /* the CRC is wrong */
     bool factory;        /* a factory tag is made */
     int ends;            /* ends of frame after the request */
-    size_t answered;     /* the length of its answers; of a search, its requests; of a profile, its state */
+    size_t answered;     /* the length of its answers; of a search, its requests */
     bool search;         /* tags are searched */
     bool pairs;          /* their UIDs are alike in 60 bits, by twos; */
     bool row;            /* or each is one more than the one before; else they are any */
     size_t tags, room;   /* so many, and so many entries are lent as the list */
     uint32_t refused;    /* with this number */
-    bool profile;        /* a Type 5 profile is asked for, whose area is the rest of the memory; */
-    bool entries;        /* it is full of entries with empty values, the message the last; else the message is the first, and then comes 00h */
 } mixes[] = {
     {.name = "read one block", .request = "022005", .answered = 7},
     {.name = "read 32 blocks", .request = "0223001F", .answered = 131},
@@ -103,8 +97,6 @@ static const struct mix {
     {.name = "64 tags, no room for the list", .search = true, .tags = 64, .refused = UISTERMO_REFUSED_SMALL},
     {.name = "256 tags, no room for the list", .search = true, .tags = 256, .refused = UISTERMO_REFUSED_SMALL},
     {.name = "1,000,000 tags, refused", .search = true, .tags = MOST_UIDS, .room = UISTERMO_TAGS, .refused = UISTERMO_REFUSED_TAGS},
-    {.name = "profile, an empty entry, then 00h", .profile = true, .answered = UISTERMO_INITIALISED},
-    {.name = "profile, empty entries", .profile = true, .entries = true, .answered = UISTERMO_INITIALISED},
 };
 enum { MIXES = sizeof mixes / sizeof *mixes };
 static const struct mix *mix;
@@ -122,7 +114,6 @@ typedef __typeof__(uistermo_load) load_call;
 typedef __typeof__(uistermo_save) save_call;
 typedef __typeof__(uistermo_factory) factory_call;
 typedef __typeof__(uistermo_search) search_call;
-typedef __typeof__(uistermo_type5) type5_call;
 
 static uint64_t floor_event(uint8_t *record, uint8_t *memory, size_t memory_length, uint8_t *room, size_t room_length, uint32_t kind,
                             const uint8_t *frame, size_t frame_length)
@@ -167,8 +158,7 @@ load_call none_load;
 save_call none_save;
 factory_call none_factory;
 search_call none_search;
-type5_call none_type5;
-__asm__(".text\nnone_event:\nnone_load:\nnone_save:\nnone_factory:\nnone_search:\nnone_type5:\n\tret\n");
+__asm__(".text\nnone_event:\nnone_load:\nnone_save:\nnone_factory:\nnone_search:\n\tret\n");
 
 enum { FLOOR, PLAIN, LIBRARY, NONE, SUBJECTS };
 static const struct subject {
@@ -178,12 +168,11 @@ static const struct subject {
     save_call *save;
     factory_call *factory;
     search_call *search;
-    type5_call *type5;
 } subjects[SUBJECTS] = {
-    [FLOOR] = {"floor", floor_event, floor_load, floor_save, floor_factory, none_search, none_type5},
-    [PLAIN] = {"plain", plain_event, plain_load, plain_save, plain_factory, plain_search, plain_type5},
-    [LIBRARY] = {"library", uistermo_event, uistermo_load, uistermo_save, uistermo_factory, uistermo_search, uistermo_type5},
-    [NONE] = {"none", none_event, none_load, none_save, none_factory, none_search, none_type5},
+    [FLOOR] = {"floor", floor_event, floor_load, floor_save, floor_factory, none_search},
+    [PLAIN] = {"plain", plain_event, plain_load, plain_save, plain_factory, plain_search},
+    [LIBRARY] = {"library", uistermo_event, uistermo_load, uistermo_save, uistermo_factory, uistermo_search},
+    [NONE] = {"none", none_event, none_load, none_save, none_factory, none_search},
 };
 
 static uint64_t make(const struct subject *s, struct lent *l, const struct call *c)
@@ -197,8 +186,6 @@ static uint64_t make(const struct subject *s, struct lent *l, const struct call 
         return s->factory(l->record, uid, l->memory, size->memory);
     if (c->kind == SEARCH)
         return s->search(uids, mix->tags, l->list, mix->room);
-    if (c->kind == TYPE5)
-        return s->type5(l->memory, size->memory, l->message);
     return s->event(l->record, l->memory, size->memory, l->room, sizeof l->room, c->kind, c->frame, c->length);
 }
 
@@ -211,20 +198,6 @@ static void run(const struct subject *s, unsigned long n)
 
 /* ---- before them */
 
-static size_t area_of_profile(void) { return size->memory - CONTAINER; }
-
-/* The longest lists that an area can have: as many entries as it has bytes, less one, or as many with a length as fit. Nothing closes them. */
-static void make_profile(uint8_t *memory)
-{
-    size_t length = area_of_profile() / 8;
-    const uint8_t container[CONTAINER] = {0xE2, 0x40, 0x00, 0x00, 0x00, 0x00, (uint8_t)(length >> 8), (uint8_t)length};
-    memset(memory, 0, size->memory);
-    memcpy(memory, container, sizeof container);
-    for (size_t i = CONTAINER; mix->entries && i < size->memory; i += ENTRY)
-        memory[i] = OTHER;
-    memory[mix->entries ? size->memory - ENTRY : CONTAINER] = MESSAGE;
-}
-
 /* Four areas, all of which can be read; two are not writable without a password. Block 0 is locked, and the UID's slot is 7. */
 static void make_source(void)
 {
@@ -235,8 +208,6 @@ static void make_source(void)
         source[sizeof header + i] = (uint8_t)(0xA0 + i); /* passwords */
     for (size_t i = 0; i < size->memory; i++)
         source[PLAIN_HEADER + i] = (uint8_t)(i * 7 + i / 256);
-    if (mix->profile)
-        make_profile(source + PLAIN_HEADER);
 }
 
 /* A number as good as any (splitmix64); the same ones each time. */
@@ -279,10 +250,6 @@ static void make_calls(void)
         add(SEARCH);
         return;
     }
-    if (mix->profile) {
-        add(TYPE5);
-        return;
-    }
     if (!mix->request) {
         add(LOAD);
         add(SAVE);
@@ -319,7 +286,7 @@ static void check_call(struct call *c)
         die("a call is refused, or is not");
     if (c->kind < LOAD)
         memcpy(c->answer, beside.room, uistermo_length(plain));
-    if (c->kind < LOAD || c->kind == SEARCH || c->kind == TYPE5)
+    if (c->kind < LOAD || c->kind == SEARCH)
         c->answered = uistermo_length(plain);
 }
 
@@ -337,7 +304,7 @@ static void check(void)
     for (size_t i = 0; i < count; i++)
         answered += calls[i].answered;
     if (answered != mix->answered)
-        die(mix->search ? "other requests are sent than the table says" : mix->profile ? "the state is another" : "the answers have another length");
+        die(mix->search ? "other requests are sent than the table says" : "the answers have another length");
 }
 
 /* ---- times */
@@ -410,8 +377,6 @@ int main(int words, char **word)
         check();
         return printf("%zu %zu\n", mix->tags, mix->answered) < 0;
     }
-    if (mix->profile && strcmp(word[3], "area") == 0)
-        return printf("%zu\n", area_of_profile()) < 0;
     const struct subject *s = find_subject(word[3]);
     bool timed = strcmp(word[3], "time") == 0;
     char *rest = "";

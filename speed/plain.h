@@ -24,8 +24,6 @@ uint64_t plain_factory(uint8_t record[UISTERMO_RECORD], uint64_t uid, uint8_t *m
 
 uint64_t plain_search(const uint64_t *uids, size_t count, uint64_t *list, size_t list_room);
 
-uint64_t plain_type5(const uint8_t *memory, size_t memory_length, uint32_t message[2]);
-
 /* The CRC of ISO/IEC 15693; it travels low byte first. */
 uint16_t plain_crc(const uint8_t *bytes, size_t n);
 

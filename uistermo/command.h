@@ -27,7 +27,7 @@ struct command {
     enum status (*run)(const struct command *self, char **words, int count); /* words: those after the name */
 };
 
-extern const struct command factory_command, show_command, header_command, run_command, tray_command, type5_command;
+extern const struct command factory_command, show_command, header_command, run_command, tray_command;
 
 /* ---- on standard error; each gives the status that goes with it */
 
@@ -42,7 +42,7 @@ enum status unwritten(const char *path, const char *why);
 /* A call that the library refused, with the documents' number and its words, and what more there is to say. */
 enum status refused(const char *path, uint64_t result, const char *more);
 
-/* The documents' number of a result that is refused: "4", "5a", "10". */
+/* The documents' number of a result that is refused: "4", "5a". */
 struct figure refusal_number(uint64_t result);
 
 /* ---- words */

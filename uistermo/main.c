@@ -1,8 +1,8 @@
 /*
  * bin/uistermo: the tool for the people at the bench, over the proved tag. This file has the table of commands; each has a file of its own.
  * session.c runs a session's lines, trace.c prints the search of a tray, image.c loads and saves image files by the library, meaning.c and fault.c
- * say what the bytes of a header mean and what is wrong with one, entries.c finds area and entries of a Type 5 profile by the library, profile.c says
- * what is wrong with one, frame.c has bytes as they travel, file.c reads and replaces files, words.c and say.c read words and say what is wrong.
+ * say what the bytes of a header mean and what is wrong with one, frame.c has bytes as they travel, file.c reads and replaces files, words.c and
+ * say.c read words and say what is wrong.
  */
 #include <signal.h>
 #include <stdio.h>
@@ -10,8 +10,7 @@
 
 #include "command.h"
 
-static const struct command *const commands[] = {&factory_command, &show_command, &header_command, &run_command, &tray_command,
-                                               &type5_command};
+static const struct command *const commands[] = {&factory_command, &show_command, &header_command, &run_command, &tray_command};
 
 enum { COMMANDS = sizeof commands / sizeof *commands };
 
@@ -23,8 +22,8 @@ static void list(FILE *to)
         fprintf(to, "      %s\n", commands[i]->about);
     }
     fputs("\nbin/uistermo COMMAND --help says more of one, with an example.\n"
-          "Exit status: 0 done; 1 refused by the library, with the documents' number and its words, and for a wrong byte of an image's header or of\n"
-          "a Type 5 profile its place; 2 a wrong word, a line that is no UID, or a file that cannot be read or written.\n",
+          "Exit status: 0 done; 1 refused by the library, with the documents' number and its words, and for a wrong byte of an image's header its\n"
+          "place; 2 a wrong word, a line that is no UID, or a file that cannot be read or written.\n",
           to);
 }
 

@@ -65,9 +65,6 @@ enum status refused(const char *path, uint64_t result, const char *more)
         [UISTERMO_REFUSED_RESERVED] = "reserved byte",
         [UISTERMO_REFUSED_TAGS] = "more than 256 tags",
         [UISTERMO_REFUSED_EQUAL] = "two UIDs are equal",
-        [UISTERMO_REFUSED_CONTAINER] = "container",
-        [UISTERMO_REFUSED_LENGTH] = "length",
-        [UISTERMO_REFUSED_TLV] = "TLV or no 03h entry",
         [UISTERMO_REFUSED_SMALL] = "the list's room is too small for all",
     };
     uint32_t number = uistermo_refusal(result);

@@ -8,7 +8,6 @@ from . import family_groups as families
 from . import frame_groups as frames
 from . import header_groups as headers
 from . import search_groups as searches
-from . import type5_groups as type5
 from .bench import Bench, hexed
 from .dice import Dice
 from .frames import inventory
@@ -26,7 +25,7 @@ RARE = (frames.damaged_inventories, frames.other_uids, commands.many_blocks, cal
 # Kinds that came later, each with dice of its own, so that it alters no line of the kinds above: its seeds begin at this
 # number, far from theirs.
 ADDED = ((calls.factory_tags, 2 ** 40), (searches.trays, 2 ** 41), (headers.wrong_headers, 2 ** 42),
-         (families.families, 2 ** 43), (type5.profiles, 2 ** 44))
+         (families.families, 2 ** 43))
 
 # Before the first group, what stands at the start is tried.
 START_LINES = (b"SAVE 2112", b"EOF", b"ON", b"REQ " + hexed(with_crc(inventory(0, b""))), b"SAVE 8256")

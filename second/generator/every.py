@@ -1,4 +1,4 @@
-"""All lines of one kind, or one in so many, through the model and casebook: families, headers, profiles, trays."""
+"""All lines of one kind, or one in so many, through the model and casebook: what families, headers and trays do."""
 
 import argparse
 import os

@@ -64,12 +64,6 @@ def search_no_form_lines(dice):
     return [lines.pop(dice.below(len(lines))) for _ in range(len(lines))]
 
 
-def type5_no_form_lines():
-    """TYPE5 takes nothing: with anything about it, it is of no form."""
-    return [b"TYPE5 ", b"TYPE5 0", b"TYPE5  ", b"type5", b"TYPE5\r", b" TYPE5", b"TYPE5 00", b"TYPE", b"TYPE55",
-            b"TYPE5TYPE5", b"TYPE 5", b"TYPE5\x00"]
-
-
 def tagrun_no_form_lines(dice):
     """Lines that tagrun answers with `?`, and the longest request beside them."""
     return [b"", b"0", b"on", b"ON ", b" ON", b"ON\r", b"OFF\x00", b"0g", b"0a", b"02200", b"000", b"ABCDE", b"0220000", b"0220 00", b"\xFF" * 4,

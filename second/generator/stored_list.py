@@ -71,8 +71,6 @@ def expected_text(step):
     """What the answer to a step must say."""
     if step.answer is None:
         return "ok"
-    if step.state is not None:
-        return f"number {step.number}, state {step.state}"
     count = f"length {len(step.answer) // 2}" if step.requests is None else f"requests {step.requests}"
     parts = [f"number {step.number}", count, f"answer {shortened(step.answer or '-')}"]
     parts += [f"record {span}" for span in spans(step.record)]

@@ -19,13 +19,12 @@ from .tool_sessions import bad_sessions, no_forms, printed_session, sessions, st
 from .tool_show import shows
 from .tool_tray import trays
 from .tool_tray_files import tray_files
-from .tool_type5 import profiles
 from .tool_words import refused_images, wrong_word_lists
 
 
 class Amounts(NamedTuple):
     """How much is tried: images shown of each size, one broken header in so many, tags of three sessions, streams and
-    their lines, drawn trays, one altered byte of a Type 5 profile in so many, bad input.
+    their lines, drawn trays, bad input.
     """
 
     shown: int
@@ -34,15 +33,14 @@ class Amounts(NamedTuple):
     seeds: int
     lines: int
     trays: int
-    altered: int
     bad: Settings
 
 
-FULL = Amounts(40, 1, 100, 5, 4000, 120, 8, Settings())
-QUICK = Amounts(4, 5, 10, 1, 1000, 20, 80, Settings(long_line=10 * MEGABYTE))
+FULL = Amounts(40, 1, 100, 5, 4000, 120, Settings())
+QUICK = Amounts(4, 5, 10, 1, 1000, 20, Settings(long_line=10 * MEGABYTE))
 # A sanitizer takes memory of its own.
-SANITIZED = Amounts(20, 1, 50, 2, 2000, 60, 16, Settings(long_line=10 * MEGABYTE, most_memory=256 * MEGABYTE))
-SANITIZED_QUICK = Amounts(4, 5, 10, 1, 1000, 20, 80, Settings(long_line=MEGABYTE, most_memory=256 * MEGABYTE))
+SANITIZED = Amounts(20, 1, 50, 2, 2000, 60, Settings(long_line=10 * MEGABYTE, most_memory=256 * MEGABYTE))
+SANITIZED_QUICK = Amounts(4, 5, 10, 1, 1000, 20, Settings(long_line=MEGABYTE, most_memory=256 * MEGABYTE))
 
 
 def parts(root, amounts):
@@ -65,7 +63,6 @@ def parts(root, amounts):
         "interrupts": interrupts,
         "tray": lambda trial: trays(trial, amounts.trays),
         "tray, files and lines": tray_files,
-        "type5": lambda trial: profiles(trial, amounts),
         "meanwhile": meanwhile,
         "pages": lambda trial: pages(trial, root),
     }

@@ -9,7 +9,7 @@ from .tool_runs import Trial
 
 SANITIZERS = ("-g", "-O1", "-fsanitize=address,undefined", "-fno-sanitize-recover=all")
 FLAGS = ("-std=c11", "-Wall", "-Wextra", "-Werror", *SANITIZERS)
-CALLS = ("event", "load", "save", "factory", "search", "type5")
+CALLS = ("event", "load", "save", "factory", "search")
 # A report ends with a status that the tool has not. What a command has not freed at its end goes back to the system.
 OPTIONS = ("ASAN_OPTIONS=exitcode=99:detect_leaks=0", "UBSAN_OPTIONS=exitcode=99:print_stacktrace=1")
 SMALLEST = "int main(void) { return 0; }\n"

@@ -122,7 +122,7 @@ def typed_header(trial, what, kbit, text, rest, words):
     errors = said(f"tag.img: refused {words}")
     for command in (["show", "tag.img"], ["run", "tag.img"], ["run", "tag.img", "--out", "out.img"],
                     ["run", "tag.img", "--out", "new.img"], ["tray", "tag.img"],
-                    ["tray", "--trace", "0" * 16, "tag.img"], ["type5", "tag.img"]):
+                    ["tray", "--trace", "0" * 16, "tag.img"]):
         trial.expect(f"{what}, {command}", command, REFUSED, b"", errors, feed=STREAM)
     trial.expect(f"{what}, header", ["header", "tag.img"], REFUSED, listed(image), errors)
 

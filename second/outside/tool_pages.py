@@ -21,7 +21,6 @@ HELP_WORDS = {  # with the help asked for among other words, sound and wrong one
     "header": (["-h"], ["none.img", "--help"], ["-h", "a", "b", "c"], ["--wrong", "--help"]),
     "run": (["-h"], ["tag.img", "-h"], ["--help", "--wrong"], ["none.img", "-", "--out", "new.img", "--help"]),
     "tray": (["-h"], ["none.txt", "-h"], ["--help", "--wrong"], ["--trace", "-", "-", "--help"]),
-    "type5": (["-h"], ["none.img", "--help"], ["-h", "a", "b", "c"], ["--wrong", "--help"]),
 }
 
 

@@ -14,9 +14,9 @@ LENGTHS = (0, 1, 63, 64, 2048, 2111, 2113, 8192, 8255, 8257, 20000, 300000)
 LONGEST_IMAGE = 8256
 NO_LENGTH = "4: image is not 2,112 or 8,256 bytes"  # 01's number and its words
 STREAM = b"ON\n022000\n"
-COMMANDS = ("factory", "show", "header", "run", "tray", "type5")
-UNKNOWN = ("Show", "shows", "sho", "headers", "head", "Header", "trays", "Tray", "type", "Type5", "type-5", "",
-           "FACTORY", "--out", "-x", "--version", "-", "show ", "16", "tag.img")
+COMMANDS = ("factory", "show", "header", "run", "tray")
+UNKNOWN = ("Show", "shows", "sho", "headers", "head", "Header", "trays", "Tray", "", "FACTORY", "--out", "-x",
+           "--version", "-", "show ", "16", "tag.img")
 WRONG_WORDS = {  # the words after each command, with the one that has to be named
     "factory": (([], ""), (["16"], ""), (["16", SESSION_UID], ""), (["tag.img"], ""),
                 (["-x", "16", SESSION_UID, "tag.img"], "-x"), (["16", SESSION_UID, "--out", "tag.img"], "--out"),
@@ -44,10 +44,6 @@ WRONG_WORDS = {  # the words after each command, with the one that has to be nam
              (["--trace=1", SESSION_UID], "--trace=1"), (["-t", SESSION_UID], "-t"), (["--"], "--"),
              (["-" + SESSION_UID], "-" + SESSION_UID), (["-tag.img"], "-tag.img"), (["---trace"], "---trace"),
              (["--out", "out.img", "tag.img"], "--out")),
-    "type5": (([], ""), (["tag.img", "out.img"], "'out.img'"), (["tag.img", "tag.img"], "'tag.img'"), (["-x"], "-x"),
-              (["-"], "'-'"), (["tag.img", "-"], "'-'"), (["tag.img", "--all"], "--all"), (["--"], "--"),
-              (["5", "tag.img"], "'tag.img'"), (["--out", "out.img", "tag.img"], "--out"),
-              (["-tag.img"], "-tag.img")),
 }
 
 

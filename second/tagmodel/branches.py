@@ -125,17 +125,6 @@ def call_branches():
     return names
 
 
-def profile_branches():
-    """The Type 5 profile: each refusal by each condition, each form of an entry, each state with each container."""
-    return (
-        under("type5", "refusal-1.memory refusal-8.mark refusal-8.upper-half refusal-8.lower-half refusal-9.length")
-        + under("type5.refusal-10", "no-length length-cut-to-1 length-cut-to-2 short-value long-value empty-message"
-                " no-message no-message-closed")
-        + under("type5.entry", "alone close short long")
-        + [f"type5.container-{count}.state-{state}" for count in (4, 8) for state in (1, 2, 3)]
-        + under("type5", "size-1 size-2 list.closed list.ends-exactly messages.one messages.more"))
-
-
 def program_branches():
     """The lines of tagrun and casebook."""
     hex_faults = "no-space digit odd bytes-over"
@@ -144,7 +133,7 @@ def program_branches():
         under("lines", "last-without-newline empty-input")
         + under("tagrun", "ON OFF EOF request question.empty question.short question.long"
                 " question.odd question.digit")
-        + under("casebook", "ON OFF EOF MEM ROOM REC PUT REQ LOAD SAVE FACTORY SEARCH TYPE5")
+        + under("casebook", "ON OFF EOF MEM ROOM REC PUT REQ LOAD SAVE FACTORY SEARCH")
         + under("casebook.question", "line.empty line.word")
         + [name for word in ("MEM", "ROOM", "SAVE") for name in under(f"casebook.question.{word}", number_faults)]
         + [name for word in ("REC", "REQ", "LOAD", "FACTORY")
@@ -158,7 +147,7 @@ def program_branches():
 def all_branches():
     """The complete list of names."""
     return (frame_branches() + command_branches() + rule_branches() + event_branches()
-            + call_branches() + profile_branches() + program_branches())
+            + call_branches() + program_branches())
 
 
 COUNTS = dict.fromkeys(all_branches(), 0)

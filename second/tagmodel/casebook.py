@@ -12,7 +12,6 @@ from .record import NoRecord, factory_record
 from .search import search
 from .sizes import LONGEST_ANSWER, SIZES, size_of_memory
 from .tag import EOF, OFF, ON
-from .type5 import profile
 
 MOST_MEMORY = 9000
 MOST_ROOM = 11000
@@ -22,8 +21,6 @@ MOST_UIDS = MOST_ENTRIES = 300
 FRESH = b"\xEE"
 FRESH_ENTRY = int.from_bytes(FRESH * UID_BYTES, "little")
 EVENT_WORDS = {b"ON": ON, b"OFF": OFF, b"EOF": EOF}
-PROFILE_WORD = b"TYPE5"
-LETTERED = range(0x5A, 0x5F)  # 5a to 5e
 NUMBER = re.compile(rb"0|[1-9][0-9]*")
 
 
@@ -56,9 +53,6 @@ class Casebook:
         if line in EVENT_WORDS:
             hit(f"casebook.{line.decode('ascii')}")
             return self.event(EVENT_WORDS[line])
-        if line == PROFILE_WORD:
-            hit("casebook.TYPE5")
-            return self.type5()
         word, space, rest = line.partition(b" ")
         if not line or word not in self.words or not space:
             raise NoForm("empty" if not line else "no-space" if word in self.words else "word")
@@ -132,11 +126,6 @@ class Casebook:
         shown = hex_of(as_bytes[:UID_BYTES * found.count]) or "-"
         return f"{found.number} {found.requests} {shown} {crc(as_bytes):04X}"
 
-    def type5(self):
-        """`TYPE5`: the profile of the lent memory, which stays; nothing else that is lent is looked at."""
-        found = profile(self.memory)
-        return f"{shown_number(found.number, found.place)} {found.state}"
-
     def read_record(self):
         """The record of the 72 bytes; without a fitting memory there is none."""
         size = size_of_memory(len(self.memory))
@@ -147,14 +136,13 @@ class Casebook:
         if result.number == host.NO_REFUSAL:
             self.record = bytes_of_record(result.record, size_of_memory(len(self.memory)))
         answer = hex_of(buffer[:result.length]) or "-"
-        return (f"{shown_number(result.number, result.place)} {result.length} {answer} {hex_of(self.record)}"
+        return (f"{shown_number(result)} {result.length} {answer} {hex_of(self.record)}"
                 f" {crc(self.memory):04X} {crc(buffer):04X}")
 
 
-def shown_number(number, place):
-    """5a to 5e, 8, 9 and 10 'are printed with their place, also where it is 0'; the others have none."""
-    shown = f"{number:x}" if number in LETTERED else str(number)
-    return shown if place is None else f"{shown}:{place}"
+def shown_number(result):
+    """5a to 5e 'are printed with their place, also where it is 0'; the others have none."""
+    return str(result.number) if result.place is None else f"{result.number:x}:{result.place}"
 
 
 def two_parts(rest):

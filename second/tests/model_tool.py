@@ -19,20 +19,17 @@ from tagmodel.search import search
 from tagmodel.session import Session
 from tagmodel.sizes import BLOCK_BYTES, HEADER_BYTES, SIZES, size_of_image
 from tagmodel.tray import Tray
-from tagmodel.type5 import entries_of, profile
 
 READ_MOST = 8257  # one byte more than the longest image
 SIZE_WORDS = {"16": SIZES[0], "64": SIZES[1]}
 USAGE = {"factory": "factory 16|64 UID IMAGE", "show": "show IMAGE", "header": "header IMAGE",
-         "run": "run IMAGE [SESSION] [--out FILE]", "tray": "tray [--trace] [UID | FILE | -]..", "type5": "type5 IMAGE"}
+         "run": "run IMAGE [SESSION] [--out FILE]", "tray": "tray [--trace] [UID | FILE | -].."}
 EXAMPLES = {
-    "factory": ["bin/uistermo factory 16 E002230401D6C8F0 tag.img"],
-    "show": ["bin/uistermo factory 64 E0:02:23:04:01:D6:C8:F0 tag.img", "bin/uistermo show tag.img"],
-    "header": ["bin/uistermo factory 64 E0:02:23:04:01:D6:C8:F0 tag.img", "bin/uistermo header tag.img"],
-    "run": ["bin/uistermo factory 16 E002230401D6C8F0 tag.img", "bin/uistermo run tag.img examples/session.txt"],
-    "tray": ["bin/uistermo tray --trace E002230401D6C8F0 E0:02:23:04:01:D6:C8:E0"],
-    "type5": ["bin/uistermo factory 16 E002230401D6C8F0 tag.img",
-              "printf 'ON\\n02240001E24004000300FE00\\n' | bin/uistermo run tag.img", "bin/uistermo type5 tag.img"],
+    "factory": ["factory 16 E002230401D6C8F0 tag.img"],
+    "show": ["factory 64 E0:02:23:04:01:D6:C8:F0 tag.img", "show tag.img"],
+    "header": ["factory 64 E0:02:23:04:01:D6:C8:F0 tag.img", "header tag.img"],
+    "run": ["factory 16 E002230401D6C8F0 tag.img", "run tag.img examples/session.txt"],
+    "tray": ["tray --trace E002230401D6C8F0 E0:02:23:04:01:D6:C8:E0"],
 }
 UID = re.compile(r"[0-9A-Fa-f]{2}([ :]*[0-9A-Fa-f]{2}){7}")
 NO_LENGTH = "image is not 2,112 or 8,256 bytes"
@@ -40,10 +37,6 @@ FAULTS = {"5a": "size mark", "5b": "lock byte", "5c": "protection byte", "5d": "
 REGISTERS = "RFA1SS ENDA1 RFA2SS ENDA2 RFA3SS ENDA3 RFA4SS".split()  # bytes 12 to 18
 PASSWORD_ROWS = "not shown"
 NEEDS = {"always": "always", "session": "in its session", "never": "never"}
-STATES = {1: "initialised", 2: "read/write", 3: "read-only"}
-PROFILE_FAULTS = {8: "container", 9: "length", 10: "TLV or no 03h entry"}
-PROFILE_STATUS = 1  # where a profile is refused
-MOST_LINES = None
 LOCKS = ("block 0", "block 1", "AFI", "DSFID", "configuration (LOCK_CFG)")
 SIGNALS = (signal.SIGINT, signal.SIGTERM, signal.SIGHUP, signal.SIGQUIT)
 REPLACED_LENGTHS = (0, 2112, 8256)
@@ -357,173 +350,6 @@ def header(path):
     tag_of_image(path, image)
 
 
-# ---- Type 5 profiles
-
-
-def amount(count):
-    """So many bytes."""
-    return f"{count:,} byte{'' if count == 1 else 's'}"
-
-
-def shown_place(place):
-    """A place as it is printed."""
-    return f"{place:,}"
-
-
-def stretch(first, count):
-    """So many places from this one on."""
-    return f"{shown_place(first)} to {shown_place(first + count - 1)}" if count > 1 else shown_place(first)
-
-
-def named_stretch(first, count):
-    """The same, with what they are."""
-    return ("places " if count > 1 else "place ") + stretch(first, count)
-
-
-def list_edges(memory):
-    """The first place of the area, and the place just after its last."""
-    start, units = (4, memory[2]) if memory[2] else (8, 256 * memory[6] + memory[7])
-    return start, start + 8 * units
-
-
-def wrong_entry(memory, place):
-    """Where the entry with this place begins: the last that was read up to it, or what stands behind all of them."""
-    starts = [list_edges(memory)[0]]
-    for entry in entries_of(memory):
-        starts += [entry.place, entry.value + entry.length]
-    return max(start for start in starts if start <= place)
-
-
-def missing_length(count, at):
-    """An entry of which the area has so many bytes behind the type."""
-    if count == 0:
-        return f"the type at place {shown_place(at)} is the area's last byte; its length is missing"
-    which = "both are" if count == 1 else "the second is"
-    return (f"the length of the entry at place {shown_place(at)} is FFh and two bytes, "
-            f"and {which} missing at the area's end")
-
-
-def list_reason(memory, place):
-    """What is wrong with a list at this place."""
-    at, end = wrong_entry(memory, place), list_edges(memory)[1]
-    if at == end:
-        return "the list ends with the area, and no 03h entry came"
-    if at == place:
-        return "FEh closes the list, and no 03h entry came before it"
-    if place == end:
-        return missing_length(end - at - 1, at)
-    is_long = memory[place] == 0xFF
-    says, value = (256 * memory[at + 2] + memory[at + 3], at + 4) if is_long else (memory[place], at + 2)
-    if says == 0:
-        return (f"byte 1 is {memory[1]:02X}h, read-only by its lower half; so the NDEF message, the entry at place "
-                f"{shown_place(at)}, may not be empty")
-    return (f"the value of the entry at place {shown_place(at)} does not fit: its length says {amount(says)}, "
-            f"and the area has {amount(end - value)} left")
-
-
-def profile_reason(memory, found):
-    """What is wrong with a profile, and what may be."""
-    if found.number == 10:
-        return list_reason(memory, found.place)
-    if found.number == 8:
-        need = "its upper half has to be 4 and its lower half 0 to 3, so it may be 40h to 43h"
-        return f"byte {found.place} is {memory[found.place]:02X}h; {need if found.place else 'it has to be E2h'}"
-    units, most = 256 * memory[6] + memory[7], len(memory) // 8 - 1
-    return (f"the length is {units:04X}h ({units:,}); the container and 8 times that need {8 * units + 8:,} bytes, "
-            f"and the memory has {len(memory):,}; it may be at most {most:04X}h ({most:,})")
-
-
-def message_entry(entries):
-    """The entry that is the message."""
-    return next(entry for entry in entries if entry.type == 3)
-
-
-def run_text(count):
-    """So many of 00h in a row."""
-    return "one byte alone" + (f", {count:,} times" if count > 1 else "")
-
-
-def entry_text(entry, message):
-    """Length and value of an entry that is not 00h."""
-    if entry.type == 0xFE:
-        return " " * 8 + "closes the list"
-    value = named_stretch(entry.value, entry.length) if entry.length else "none"
-    return f"{entry.length:<8,}{value}{', the NDEF message' if entry == message else ''}"
-
-
-def entry_rows(entries, message):
-    """The entries; of 00h a row for all that stand together."""
-    at = 0
-    while at < len(entries):
-        count = 1
-        while entries[at].type == 0 and at + count < len(entries) and entries[at + count].type == 0:
-            count += 1
-        text = " " * 8 + run_text(count) if entries[at].type == 0 else entry_text(entries[at], message)
-        yield f"{stretch(entries[at].place, count):16}{entries[at].type:02X}h   {text}"
-        at += count
-
-
-def fault_row(memory, place):
-    """The entry at fault, or the area's end, with the mark."""
-    at = wrong_entry(memory, place)
-    is_empty = "may not be empty" in list_reason(memory, place)
-    kind = "" if at == list_edges(memory)[1] else f"{memory[at]:02X}h"
-    return f"{shown_place(at):16}{kind:6}{'0' if is_empty else '':8}<-- 10: {list_reason(memory, place)}"
-
-
-def valid_lines(memory, found):
-    """All lines of a valid profile."""
-    entries, (head, rows) = entries_of(memory), list_head(memory)
-    message = f"{named_stretch(found.message, found.length)}, {amount(found.length)}"
-    lines = [f"state           {STATES[found.state]}", *head, f"message         {message}", rows,
-             *entry_rows(entries, message_entry(entries))]
-    return lines if entries[-1].type == 0xFE else [*lines, f"{shown_place(list_edges(memory)[1]):30}the area's end"]
-
-
-def list_head(memory):
-    """The lines on container and area, and that above the entries."""
-    start, end = list_edges(memory)
-    container = " ".join(f"{byte:02X}" for byte in memory[:start])
-    return ([f"container       {named_stretch(0, start)}: {container}",
-             f"area            {named_stretch(start, end - start)}, {amount(end - start)}"],
-            "place           type  length  value")
-
-
-def refused_lines(memory, place):
-    """The lines of a list up to the entry at fault."""
-    at, (head, rows) = wrong_entry(memory, place), list_head(memory)
-    entries = [entry for entry in entries_of(memory) if entry.place < at]
-    return [*head, rows, *entry_rows(entries, None), fault_row(memory, place)]
-
-
-def bracketed(memory, place):
-    """The bytes about this place, which is in brackets."""
-    first, end = max(place - 8, 0), min(place + 8, len(memory))
-    before, after = memory[first:place].hex(" "), memory[place + 1:end].hex(" ")
-    text = f"{before} [{memory[place:place + 1].hex()}] {after}".strip().upper()
-    return f"bytes           {named_stretch(first, end - first)}: {text}"
-
-
-def memory_of(path):
-    """The memory of an image that is not refused."""
-    return load(path)[1]
-
-
-def type5(path):
-    """type5 IMAGE"""
-    memory = memory_of(path)
-    found = profile(memory)
-    if not found.number:
-        lines = valid_lines(memory, found)
-    else:
-        lines = refused_lines(memory, found.place) if found.number == 10 else []
-        lines.append(bracketed(memory, found.place))
-    answered("".join(f"{line}\n" for line in lines[:MOST_LINES]).encode("ascii"))
-    if found.number:
-        raise Stop(PROFILE_STATUS, f"{path}: refused {found.number}: {PROFILE_FAULTS[found.number]}, at place "
-                                   f"{shown_place(found.place)}: {profile_reason(memory, found)}")
-
-
 # ---- sessions
 
 
@@ -777,7 +603,7 @@ def tray(*words):
     answered("\n".join([*lines, *uid_lines(found), f"{len(requests)} requests", ""]).encode("ascii"))
 
 
-COMMANDS = {"factory": factory, "show": show, "header": header, "run": run, "tray": tray, "type5": type5}
+COMMANDS = {"factory": factory, "show": show, "header": header, "run": run, "tray": tray}
 
 
 def do(words):
@@ -788,18 +614,18 @@ def do(words):
     if command in ("-h", "--help", "help"):
         print("\n".join(USAGE.values()))
     elif command not in COMMANDS:
-        raise Stop(2, f"{command}: no command; the commands are factory, show, header, run, tray and type5")
+        raise Stop(2, f"{command}: no command; the commands are factory, show, header, run and tray")
     elif "-h" in rest or "--help" in rest:
         print(f"usage: uistermo {USAGE[command]}\n\nExample:")
         for line in EXAMPLES[command]:
-            print(f"  {line}")
+            print(f"  bin/uistermo {line}")
     else:
         for word in rest:
             if word.startswith("-") and word != "-" and (command, word) not in OPTIONS:
                 raise wrong(command, f"{word}: no option of {command}")
-        if command in ("show", "header", "type5") and len(rest) != 1:
+        if command in ("show", "header") and len(rest) != 1:
             raise wrong(command, f"'{rest[1]}' is a word too many" if rest else "one image")
-        if command in ("factory", "show", "header", "type5") and rest and rest[-1] in NOT_IMAGES:
+        if command in ("factory", "show", "header") and rest and rest[-1] in NOT_IMAGES:
             raise wrong(command, "'-' is no image")
         COMMANDS[command](*rest)
 

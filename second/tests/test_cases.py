@@ -120,15 +120,6 @@ class AddedKinds(unittest.TestCase):
                 self.answers(added_lines(seed, 6))
                 self.assertEqual([name for name in wanted if not COUNTS[name]], [], seed)
 
-    def test_fresh_cases_have_profiles(self):
-        """Twelve turns of any seed have each state and each refusal, and lines of no form."""
-        with mock.patch.object(casebook_cases, "ADDED", casebook_cases.ADDED[4:]):
-            for seed in range(1, 6):
-                lines = list(added_lines(seed, 12))
-                found = {answer.split(":")[0] for each, answer in zip(lines, self.answers(lines))
-                         if each.startswith(b"TYPE5")}
-                self.assertEqual(found, {"0 1", "0 2", "0 3", "1 0", "8", "9", "10", "?"}, seed)
-
     def test_other_seeds_have_others(self):
         self.assertEqual(len({b"".join(added_lines(seed, 1)) for seed in range(1, 30)}), 29)
 

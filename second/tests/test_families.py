@@ -194,7 +194,7 @@ class EveryFamily(unittest.TestCase):
 
     def test_step(self):
         """A step below 1 is refused, by the other runs of this kind too."""
-        for program in ("families", "headers", "profiles", "trays"):
+        for program in ("families", "headers", "trays"):
             for word in ("0", "-1"):
                 self.assertEqual(run_program(program, b"", "--step", word, "--casebook", OWN), (2, b""), program)
 

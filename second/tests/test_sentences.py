@@ -63,11 +63,10 @@ class Cases(unittest.TestCase):
             self.assertTrue(0 < len(case.otherwise) <= 240, case.name)
 
     def test_each_lends_what_it_needs(self):
-        """Memory, room and record, before anything is called; a search needs none of them, a profile the memory."""
+        """Memory, room and record, before anything is called; a search needs none of them."""
         for case in CASES:
             words = [step.line.split(b" ")[0] for step in case.steps]
-            profile = words[0] == b"MEM" and set(words) == {b"MEM", b"PUT", b"TYPE5"}
-            self.assertTrue(words[:3] == [b"MEM", b"ROOM", b"REC"] or set(words) == {b"SEARCH"} or profile, case.name)
+            self.assertTrue(words[:3] == [b"MEM", b"ROOM", b"REC"] or set(words) == {b"SEARCH"}, case.name)
 
     def test_model_answers_so(self):
         """One after the other, as they are stored, and each alone."""
@@ -122,7 +121,6 @@ class Listing(unittest.TestCase):
         self.assertEqual(expected_text(Step(b"MEM 0")), "ok")
         self.assertEqual(expected_text(Step(b"SEARCH 0 ", "", room="0000", requests=1)),
                          "number 0, requests 1, answer -, room 0000")
-        self.assertEqual(expected_text(Step(b"TYPE5", "", "10:42", state=0)), "number 10:42, state 0")
 
     def test_one_case(self):
         code, output = run_program("stored", b"", "--case", "check-2-under-4")

@@ -59,10 +59,6 @@ class Worked(unittest.TestCase):
         for answer in ("6 1 F0C8D601042302E0 1234", "0 2 F0C8D601042302E0 1234", "0 1 - 1234", "0 1 F0C8D601042302E0 1235",
                        "0 1 F0C8D601042302E0", "0 1 F0C8D601042302E0 1234 1234", "ok", "?"):
             self.assertNotEqual(faults(step, answer), [], answer)
-        step = Step(b"TYPE5", "", "10:42", state=0)
-        self.assertEqual(faults(step, "10:42 0"), [])
-        for answer in ("10:42 1", "10:41 0", "10 0", "a:42 0", "9:42 0", "10:42", "10:42 0 0", "ok", "?", ""):
-            self.assertNotEqual(faults(step, answer), [], answer)
         self.assertEqual(faults(Step(b"MEM 1"), "ok"), [])
         self.assertNotEqual(faults(Step(b"MEM 1"), "?"), [])
         self.assertNotEqual(faults(Step(b"EOF", ""), f"0 3 0078F0 {record} F078 1234"), [])

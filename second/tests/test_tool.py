@@ -12,13 +12,12 @@ import unittest
 from generator import scenes
 from generator.dice import Dice
 from outside import (tool_factory, tool_faults, tool_files, tool_header, tool_interrupts, tool_limits, tool_meanwhile,
-                     tool_pages, tool_sessions, tool_show, tool_tags, tool_tray, tool_tray_files, tool_type5,
-                     tool_type5_lines, tool_typed, tool_words)
+                     tool_pages, tool_sessions, tool_show, tool_tags, tool_tray, tool_tray_files, tool_typed,
+                     tool_words)
 from outside.bad_input import Settings
 from outside.tool_runs import KEPT, Trial, changes, said, snapshot, wrong_words
 from tagmodel import rights
 from tagmodel.record import factory_record
-from tagmodel.type5 import reading
 
 from .support import FOLDER, LARGE, SMALL, UID, framed
 
@@ -97,21 +96,6 @@ def listed(trial):
     tool_header.list_one(trial, "byte 55", tool_show.altered(tool_tags.any_image(Dice(7), SMALL), {55: 1}))
 
 
-def profile(*names):
-    """A trial of some Type 5 profiles, by their names."""
-    return lambda trial: tool_type5.by_hand(trial, names)
-
-
-def long_list(trial):
-    """The most rows that a valid profile has."""
-    tool_type5.list_one(trial, "most rows", tool_type5.most_rows())
-
-
-def header_first(trial):
-    """A valid profile behind a broken header, and one that is not."""
-    tool_type5.header_first(trial, 15)
-
-
 def factory(trial):
     """One UID in three spellings, over no file, an image and an empty file."""
     uid = tool_factory.UIDS[4]
@@ -137,9 +121,9 @@ def words(trial):
     """A wrong word, a command that is none, and no words."""
     trial.put("tag.img", tool_tags.factory_image(SMALL))
     trial.refuses("an option", ["run", "tag.img", "--on"], wrong_words("run", "--on"))
-    for command in ("show", "header", "type5"):
+    for command in ("show", "header"):
         trial.refuses("a word too many", [command, "tag.img", "b.img"], wrong_words(command, "'b.img'"))
-    for command, rest in (("factory", ["16", tool_tags.SESSION_UID]), ("show", []), ("header", []), ("type5", []),
+    for command, rest in (("factory", ["16", tool_tags.SESSION_UID]), ("show", []), ("header", []),
                           ("run", ["tag.img", "--out"])):
         trial.refuses("no file's name", [command, *rest, "-"], wrong_words(command, "-"))
     tool_words.wrong_command(trial, "shows")
@@ -283,14 +267,6 @@ class Model(unittest.TestCase):
                       typed("16 for the mark of 16 Kbit", "the digits of 09h", "the E of the larger", "two pairs",
                             "one value is left", "the last end left at 00h", "lock byte and a reserved byte"))
 
-    def test_profiles(self):
-        self.no_fault(tool_type5.by_hand, tool_type5.other_lengths, tool_type5.files, tool_type5.unwritable,
-                      tool_type5.no_reader, tool_type5.one_stream, header_first)
-
-    def test_altered_profiles(self):
-        self.no_fault(lambda trial: tool_type5.shapes(trial, 60), lambda trial: tool_type5.long_lists(trial, 32),
-                      lambda trial: tool_type5.drawn(trial, 6))
-
     def test_files(self):
         self.no_fault(not_a_place, lambda trial: tool_files.unreadable_file(trial, "none/tag.img", errno.ENOENT), link,
                       tool_files.pipes, small_files, other_files, no_reader, tool_meanwhile.meanwhile)
@@ -339,8 +315,6 @@ class Wrong(unittest.TestCase):
 
     def test_a_tool_that_does_nothing(self):
         for run in (factory, show, listed, typed("two pairs"), tool_header.other_lengths, tool_header.unwritable,
-                    profile("initialised"), profile("FEh alone"), long_list, header_first, tool_type5.other_lengths,
-                    tool_type5.files, tool_type5.unwritable, tool_type5.no_reader, tool_type5.one_stream,
                     tool_header.one_stream, one_session, broken, too_long, words, link, not_a_place, small_files,
                     interrupt, line_by_line, ignored, no_reader, tool_files.pipes, other_files, tool_files.to_streams,
                     tool_meanwhile.no_image_any_more, no_forms, tool_tray.printed_example, collisions, equal_uids,
@@ -374,20 +348,6 @@ class Wrong(unittest.TestCase):
         self.assertIn("passwords shown: expected [], found [0, 1, 2, 3]", self.found("passwords-listed", listed))
         self.assertIn("51 to 54", self.found("no-row-of-its-own", listed))
         self.assertIn("header, byte 55: standard output", self.found("no-row-of-its-own", listed))
-
-    def test_profiles(self):
-        later, runs = profile("later 03h entries, the first is empty"), profile("00h before, between and after")
-        self.assertIn("\n18              03h   0       none, the NDEF message", self.found("last-message", later))
-        self.assertIn("E1 [40] 04", self.found("next-in-brackets", profile("the mark E1h")))
-        self.assertIn("\n13 to 15        00h           one byte alone, 2 times", self.found("a-run-too-short", runs))
-        self.assertIn("\n14              00h           on", self.found("a-row-for-each", runs))
-        self.assertIn("status: expected 1, found 0", self.found("done-if-refused", profile("the lower half of byte 1")))
-        self.assertIn("and both are missing", self.found("another-missing", profile("FFh without the second byte")))
-        self.assertIn("refused 10: length", self.found("tlv-as-length", profile("FEh alone")))
-        self.assertIn("places 64 to 67", self.found("places-of-the-file", profile("initialised")))
-        self.assertIn("at place 11", self.found("end-within-the-area", profile("no 03h by the area's end")))
-        self.assertIn("most rows: standard output: expected", self.found("a-thousand-lines", long_list))
-        self.assertIn("standard output: expected 0 bytes, '', found", self.found("any-header", header_first))
 
     def test_what_is_shown(self):
         self.assertIn("password 2", self.found("another-area", show))
@@ -488,18 +448,6 @@ class Expected(unittest.TestCase):
             self.assertEqual(tool_faults.fault_line(image, tool_faults.fault_of(image)), words, what)
         for kbit, (text, listing) in ((64, tool_typed.LISTED_RIGHT), (16, tool_typed.LISTED_WRONG)):
             self.assertEqual(tool_header.listed(tool_header.typed_image(kbit, text)).decode("ascii"), listing)
-
-    def test_typed_profiles(self):
-        """What is worked from the model is what is written by hand, lines and words; every rule is broken once."""
-        self.assertEqual(len(tool_type5.BY_HAND), len(tool_type5.LISTED) + len(tool_type5.TYPED_WRONG))
-        rules = {reading(tool_type5.typed_memory(what))[0].rule for what, *_ in tool_type5.TYPED_WRONG}
-        self.assertEqual(rules, {"mark", "upper-half", "lower-half", "length", "short-value", "long-value", "no-length",
-                                 "length-cut-to-1", "length-cut-to-2", "no-message-closed", "no-message",
-                                 "empty-message"})
-        for what, (listing, line) in tool_type5.BY_HAND.items():
-            memory = tool_type5.typed_memory(what)
-            self.assertEqual(tool_type5_lines.listed(memory).decode("ascii"), listing, what)
-            self.assertEqual(tool_type5_lines.fault_line(memory), line, what)
 
     def test_picture(self):
         """Slot Bh hears three, of which 1ABh and 2ABh have the next group in common. CRCs are worked bit by bit."""

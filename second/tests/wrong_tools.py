@@ -1,7 +1,6 @@
 """The tool of model_tool.py with one thing wrong, which the trials have to find: wrong_tools.py WHAT WORDS.."""
 
 import io
-import itertools
 import os
 import re
 import shutil
@@ -16,9 +15,8 @@ from tests import model_tool
 WAITING = []
 look_at, write_file = model_tool.look_at, model_tool.write_file
 answered, area_text, no_form_text = model_tool.answered, model_tool.area_text, model_tool.no_form_text
-request_numbers, entry_rows = model_tool.request_numbers, model_tool.entry_rows
+request_numbers = model_tool.request_numbers
 fault_place, header_rows, refusal_text = model_tool.fault_place, model_tool.header_rows, model_tool.refusal_text
-bracketed, missing_length, profile = model_tool.bracketed, model_tool.missing_length, model_tool.profile
 
 
 def write_in_place(path, contents):
@@ -88,33 +86,6 @@ def earlier_of_a_pair(image):
 def count_places_from_1(image):
     """The first byte is at place 1."""
     return re.sub(r"place (\d+)", lambda found: f"place {int(found[1]) + 1}", refusal_text(image))
-
-
-def bracket_the_next(memory, place):
-    """Not the byte at fault is in brackets, but the one behind it."""
-    return re.sub(r"\[(..)\] (..)", r"\1 [\2]", bracketed(memory, place))
-
-
-def end_within_the_area(memory):
-    """The area's end is taken for its last byte."""
-    found = profile(memory)
-    at_end = found.number == 10 and found.place == model_tool.list_edges(memory)[1]
-    return found._replace(place=found.place - 1) if at_end else found
-
-
-def last_message(entries):
-    """The mark stands at the last 03h entry."""
-    return [entry for entry in entries if entry.type == 3][-1]
-
-
-def row_for_each(entries, message):
-    """Every 00h has a row of its own."""
-    return itertools.chain.from_iterable(entry_rows([entry], message) for entry in entries)
-
-
-def another_missing(count, at):
-    """Where one byte of a length is missing, both are said to be, and the other way round."""
-    return missing_length((0, 2, 1)[count], at)
 
 
 def end_quietly(number, frame):
@@ -199,17 +170,6 @@ WRONG = {
     "ends-in-hex": ("both", lambda end: f"{end:02X}h"),
     "passwords-listed": ("row_bytes", lambda image, place, end: image[place:end].hex().upper()),
     "no-row-of-its-own": ("header_rows", lambda image, fault: header_rows(image, 64)),
-    "last-message": ("message_entry", last_message),
-    "next-in-brackets": ("bracketed", bracket_the_next),
-    "a-run-too-short": ("run_text", lambda count: f"one byte alone{f', {count - 1:,} times' if count > 2 else ''}"),
-    "a-row-for-each": ("entry_rows", row_for_each),
-    "done-if-refused": ("PROFILE_STATUS", 0),
-    "another-missing": ("missing_length", another_missing),
-    "tlv-as-length": ("PROFILE_FAULTS", {8: "container", 9: "length", 10: "length"}),
-    "places-of-the-file": ("shown_place", lambda place: f"{place + 64:,}"),
-    "end-within-the-area": ("profile", end_within_the_area),
-    "a-thousand-lines": ("MOST_LINES", 1000),
-    "any-header": ("memory_of", lambda path: model_tool.read_image(path)[64:]),
     "uids-as-numbers": ("uid_lines", lambda found: [f"{uid:016X}" for uid in sorted(found)]),
     "uids-lowest-first": ("uid_lines", lambda found: [uid.to_bytes(8, "little").hex().upper() for uid in found]),
     "tray-of-256": ("ENOUGH_TAGS", 256),

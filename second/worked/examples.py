@@ -42,7 +42,7 @@ class Step(NamedTuple):
     `number` is as it is printed, text where it has a letter and a place. `record` names bytes of the 72 by their place;
     `memory` and `room` are the CRC of their bytes, high byte first (for SAVE the image stands in place of the room, for
     SEARCH the list). For SEARCH `answer` has the UIDs found and `requests` is the number of requests; for the others it
-    is None. `state` is that of a profile, for TYPE5 alone.
+    is None.
     """
 
     line: bytes
@@ -52,7 +52,6 @@ class Step(NamedTuple):
     memory: Optional[str] = None
     room: Optional[str] = None
     requests: Optional[int] = None
-    state: Optional[int] = None
 
 
 class Example(NamedTuple):
@@ -205,37 +204,13 @@ def places(record):
     return dict(enumerate(bytes.fromhex(record)))
 
 
-INITIALISED, READ_WRITE, READ_ONLY = (0, 1), (0, 2), (0, 3)  # number and state of a valid profile
-
-
-def puts(at, text):
-    """Bytes into the memory; spaces stand between them for the eye."""
-    return line(f"PUT {at} " + text.replace(" ", ""))
-
-
-def profile(expected):
-    """TYPE5: number and state, or the number of a refusal, whose state is 0."""
-    number, state = expected if isinstance(expected, tuple) else (expected, 0)
-    return Step(b"TYPE5", SILENCE, number, state=state)
-
-
-# The parts of an answer line by name: that of a search, that of a profile, and that of any other call.
+# The parts of an answer line by name: that of a search, and that of any other call.
 SEARCH_PARTS = ("number", "requests", "answer", "room")
-PROFILE_PARTS = ("number", "state")
 CALL_PARTS = ("number", "length", "answer", "record", "memory", "room")
-
-
-def parts_of(step):
-    """The names of the parts of a call's answer line."""
-    if step.state is not None:
-        return PROFILE_PARTS
-    return CALL_PARTS if step.requests is None else SEARCH_PARTS
 
 
 def expected_parts(step):
     """By name, what the parts of a call's answer line must be; of the others anything is taken."""
-    if step.state is not None:
-        return {"number": str(step.number), "state": str(step.state)}
     parts = {"number": str(step.number), "answer": step.answer or "-", "memory": step.memory, "room": step.room}
     if step.requests is None:
         parts["length"] = str(len(step.answer) // 2)
@@ -249,7 +224,7 @@ def faults(step, answer):
     """What an answer line says otherwise than the document."""
     if step.answer is None:
         return [] if answer == "ok" else [f"expected ok: {answer[:80]}"]
-    names, parts = parts_of(step), answer.split(" ")
+    names, parts = CALL_PARTS if step.requests is None else SEARCH_PARTS, answer.split(" ")
     if len(parts) != len(names):
         return [f"expected the answer of a call: {answer[:80]}"]
     found = dict(zip(names, parts))

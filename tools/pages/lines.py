@@ -6,7 +6,7 @@ from .names import CODE
 from .page import quoted
 from .sources import ROOT, read
 
-LINE = re.compile(r"(?P<file>\b[a-z][a-z0-9]*/[\w./-]+\.\w+):(?P<lines>\d+(?:, \d+)*)")
+LINE = re.compile(r"(?P<file>\b[a-z]+/[\w./-]+\.\w+):(?P<lines>\d+(?:, \d+)*)")
 OTHERWISE = re.compile(r"(?<![\w/])\w+\.rt:\d+|\w+\.rt,? lines? \d+|\w+\.rt:\d+ ?(?:-|–|to) ?\d+")
 
 

@@ -15,13 +15,13 @@ OTHERS = {
     "n.", "Bool",  # of the language: what `use M as n` puts before names, and the type of tests
     "gcc-x86-64-linux-gnu",  # a package of Debian
 }
-PLACE = (r"(?:(?<![\w/.`])(?P<crate>[a-z][a-z0-9]*)/(?P<file>[A-Z]\w*)\b(?!/|\.\w)"
+PLACE = (r"(?:(?<![\w/.`])(?P<crate>[a-z]+)/(?P<file>[A-Z]\w*)\b(?!/|\.\w)"
          r"|(?P<path>(?:crates/\w+/)?(?:(?:specs|proofs)/)?[A-Z]\w*\.antt))")
 RUN = r"(?P<run>(?:`[^`]+`(?:,\s+and\s+|,\s+|\s+and\s+))*`[^`]+`)"
 RUN_AT = re.compile(RUN + r"(?:\s+\(|,\s+|\s+of\s+)" + PLACE + r"(?!:\s+`)")
-RUN_OF = re.compile(RUN + r"\s+of\s+`?(?P<crate>[a-z][a-z0-9]*)\b`?")
+RUN_OF = re.compile(RUN + r"\s+of\s+`?(?P<crate>[a-z]+)\b`?")
 PATH = re.compile(r"(?<![\w/`])(?:(?:crates|docs|second|tools|include|examples|speed|bin|uistermo)/[\w.*/-]*[\w*/]"
-                  r"|[a-z][a-z0-9]*/(?:src|specs|proofs)\b[\w./]*|(?:src|specs|proofs)/[\w./]*\w)")
+                  r"|[a-z]+/(?:src|specs|proofs)\b[\w./]*|(?:src|specs|proofs)/[\w./]*\w)")
 SECTION = re.compile(r"Crate `(\w+)`")
 BYTES = re.compile(r"[0-9A-F]{2,}( [0-9A-F]{2,})*|[-?]")
 CODE = re.compile(r"[\[{&=;]")

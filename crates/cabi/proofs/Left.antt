@@ -5,7 +5,7 @@ use native.Mathlib.Omega.{arith}
 use mathlib.Core.Path.{◌≡◌, refl, sym, ap, ◌∙◌}
 use mathlib.Core.Bool.{true, false}
 use mathlib.Core.List.{List}
-use lib.ListN.{length, drop, set}
+use lib.ListN.{length, drop}
 use lib.Dec.{ltb, eqb}
 use borrow.Author.Tests.{le-ltb, ltb-false, eqb-false, ne_eqb}
 use Rattle.rights.proofs.Cases.{if-one}
@@ -23,14 +23,11 @@ use Rattle.tag.proofs.OnlyFrames.{NoFrame, on, off, end, lasts}
 use Rattle.step.specs.declared.Said.{Said}
 use Rattle.step.specs.Gives.{Gives}
 use Rattle.tray.specs.Tray.{SearchGiven, given, search_given}
-use Rattle.type5.specs.declared.Profile.{Profile}
-use Rattle.type5.specs.Type5.{ProfileGiven, given_by, profile_given}
-use Rattle.type5.proofs.Theorems.{accepted_valid, valid_accepted, refused_nothing}
 use Rattle.packed.specs.Bytes.{record_in, is_record, record_of}
 use Rattle.packed.specs.Parts.{PassingLeft}
 use Rattle.packed.specs.Result.{result_of}
 use Rattle.cabi.specs.Calls.{kind_in, EventLeft, event_left, EventLeaves, LoadLeft, FillLeaves, load_left, LoadLeaves, SaveLeft, save_left, SaveLeaves}
-use Rattle.cabi.specs.Calls.{search_left, SearchLeaves, type5_left, Type5Leaves}
+use Rattle.cabi.specs.Calls.{search_left, SearchLeaves}
 
 pub number_most : (r : Refusal) → number_of r ≤ 0x5E
 number_most refusal.None = omega arith
@@ -45,9 +42,6 @@ number_most (refusal.End place) = omega arith
 number_most (refusal.Reserved place) = omega arith
 number_most refusal.Tags = omega arith
 number_most refusal.Equal = omega arith
-number_most (refusal.Container place) = omega arith
-number_most (refusal.Length place) = omega arith
-number_most (refusal.Tlv place) = omega arith
 number_most refusal.Small = omega arith
 
 -- ---- a call that leaves what the definition names
@@ -124,25 +118,3 @@ search_by number requests e h = record {
   result = h ∙ ap (λ (g : SearchGiven). result_of 0 g.number g.requests) e;
   list = ap (λ (g : SearchGiven). g.list) e;
 }
-
--- of the profile: refused, and then no state is given; or taken, and then there is no place
-module _ (m x : List ℕ) (p : Profile) (e : given_by p ≡ profile_given m) where
-  pub type5_refused : {n : ℕ} → (number_of p.refusal ≡ 0 → ⊥) → n ≡ result_of (place_of p.refusal) (number_of p.refusal) 0 → Type5Leaves m x x n
-  unfolding type5_left
-  type5_refused some h =
-      let left : (profile_given m).number ≡ 0 → ⊥ = λ z. some (ap (λ (g : ProfileGiven). g.number) e ∙ z) in
-      record {
-        result = rw (refused_nothing m left).0 (h ∙ ap (λ (g : ProfileGiven). result_of g.place g.number 0) e);
-        message = rw (ne_eqb (profile_given m).number 0 left);
-      }
-
-  pub type5_taken : number_of p.refusal ≡ 0 → Type5Leaves m x (set (set x 0 p.start) 1 p.count) p.state
-  unfolding type5_left
-  type5_taken none =
-      let taken : (profile_given m).number ≡ 0 = sym (ap (λ (g : ProfileGiven). g.number) e) ∙ none in
-      let place = (valid_accepted m (accepted_valid m taken)).place in
-      let state : p.state ≡ (profile_given m).state = ap (λ (g : ProfileGiven). g.state) e in
-      record {
-        result = rw (place, taken) (omega arith);
-        message = rw taken (ap (λ (g : ProfileGiven). set (set x 0 g.start) 1 g.count) e);
-      }

@@ -7,7 +7,7 @@ use Prim.Native.Nat.{ℕ}
 use Rattle.put.proofs.Only.{one-result}
 use Rattle.tag.proofs.OnlyOne.{ExactlyOne}
 use Rattle.cabi.specs.Calls.{EventLeft, event_left, EventLeaves, LoadLeft, FillLeaves, load_left, LoadLeaves, SaveLeft, save_left, SaveLeaves, factory_left, FactoryLeaves}
-use Rattle.cabi.specs.Calls.{SearchLeft, search_left, SearchLeaves, Type5Left, type5_left, Type5Leaves}
+use Rattle.cabi.specs.Calls.{SearchLeft, search_left, SearchLeaves}
 
 pub one_event : (k : ℕ) (frame r m x : List ℕ) → ExactlyOne (λ (o : EventLeft). EventLeaves k frame r m x o.bytes o.memory o.room o.result)
 one_event k frame r m x = record {
@@ -50,11 +50,4 @@ one_search uids x = record {
   outcome = search_left uids x;
   meets = record { result = refl; list = refl };
   only = λ o p g h i. record { result = one-result g.result h.result i; list = one-result g.list h.list i };
-}
-
-pub one_type5 : (m x : List ℕ) → ExactlyOne (λ (o : Type5Left). Type5Leaves m x o.message o.result)
-one_type5 m x = record {
-  outcome = type5_left m x;
-  meets = record { result = refl; message = refl };
-  only = λ o p g h i. record { result = one-result g.result h.result i; message = one-result g.message h.message i };
 }

@@ -1,6 +1,6 @@
 -- The calls of the C boundary: what each returns, and every byte that it leaves, for every input whatever.
 -- Assumes nothing.
-use Rattle.std.specs.Prelude.{ℕ, ◌+◌, not, ◌≡◌, List, length, set, ltb, eqb}
+use Rattle.std.specs.Prelude.{ℕ, ◌+◌, not, ◌≡◌, List, length, ltb, eqb}
 use Rattle.put.specs.If.{if◌then◌else◌}
 use Rattle.record.specs.declared.Kind.{Kind}
 use Rattle.record.specs.declared.Kind.TheVariants.{FieldOn, FieldOff, EndOfFrame, Request}
@@ -8,7 +8,6 @@ use Rattle.tag.specs.Step.{event_of}
 use Rattle.tag.specs.Image.{header_length, image_of}
 use Rattle.tag.specs.Host.{is_memory, fits_image, least_room, is_image, event_done, LoadGiven, load_given, factory_given}
 use Rattle.tray.specs.Tray.{search_given}
-use Rattle.type5.specs.Type5.{profile_given}
 use Rattle.packed.specs.Bytes.{record_in, is_record, record_of}
 use Rattle.packed.specs.Result.{result_of}
 
@@ -116,19 +115,3 @@ search_left uids x =
 pub record SearchLeaves (uids x x' : List ℕ) (n : ℕ) : Type 0 where
   pub result : n ≡ (search_left uids x).result
   pub list : x' ≡ (search_left uids x).list
-
--- ---- the Type 5 profile
-
-pub record Type5Left : Type 0 where
-  pub result : ℕ
-  pub message : List ℕ
-
--- "the length of the result is the state; message is place and length of the first 03h entry's value, and stays as it was where refused"
-unfoldable pub type5_left : List ℕ → List ℕ → Type5Left
-type5_left m x =
-    let g = profile_given m in
-    record { result = result_of g.place g.number g.state; message = unless_refused g.number (set (set x 0 g.start) 1 g.count) x }
-
-pub record Type5Leaves (m x x' : List ℕ) (n : ℕ) : Type 0 where
-  pub result : n ≡ (type5_left m x).result
-  pub message : x' ≡ (type5_left m x).message

@@ -3,7 +3,7 @@
 ghost use Rattle.std.specs.Prelude.{◌≡◌};
 ghost use Rattle.tag.specs.Host.{number_of, place_of};
 ghost use Rattle.packed.specs.Result.{result_of};
-ghost use Rattle.cabi.specs.Calls.{kind_in, EventLeaves, LoadLeaves, SaveLeaves, FactoryLeaves, SearchLeaves, Type5Leaves};
+ghost use Rattle.cabi.specs.Calls.{kind_in, EventLeaves, LoadLeaves, SaveLeaves, FactoryLeaves, SearchLeaves};
 
 use host::{fits_image, is_image, is_memory, last_end};
 use image::reading::{factory, load};
@@ -29,15 +29,12 @@ fn number(r: Refusal) -> u64
         Refusal::Reserved(_) => 0x5E,
         Refusal::Tags => 6,
         Refusal::Equal => 7,
-        Refusal::Container(_) => 8,
-        Refusal::Length(_) => 9,
-        Refusal::Tlv(_) => 10,
         Refusal::Small => 18,
     }
 }
 
-// 02: ".. with the lowest offending byte's place", ".. with the place of the byte at fault"; 0 for a refusal that has none
-fn place(r: Refusal) -> u16
+// 02: ".. with the lowest offending byte's place", 0 for a refusal that has none
+fn place(r: Refusal) -> u8
     ensures { result ≡ place_of r }
 {
     match r {
@@ -46,16 +43,13 @@ fn place(r: Refusal) -> u16
         Refusal::Room => 0,
         Refusal::Record => 0,
         Refusal::Image => 0,
-        Refusal::Mark(at) => at as u16,
-        Refusal::Lock(at) => at as u16,
-        Refusal::Protection(at) => at as u16,
-        Refusal::End(at) => at as u16,
-        Refusal::Reserved(at) => at as u16,
+        Refusal::Mark(at) => at,
+        Refusal::Lock(at) => at,
+        Refusal::Protection(at) => at,
+        Refusal::End(at) => at,
+        Refusal::Reserved(at) => at,
         Refusal::Tags => 0,
         Refusal::Equal => 0,
-        Refusal::Container(at) => at,
-        Refusal::Length(at) => at,
-        Refusal::Tlv(at) => at,
         Refusal::Small => 0,
     }
 }
@@ -180,19 +174,4 @@ pub extern "C" fn uistermo_search(uids: &[u64], list: &mut [u64]) -> u64
     let s = tray::search(uids, list);
     let refusal = s.refusal;
     number(refusal) * 0x1_0000_0000 + s.requests as u64
-}
-
-// "the length of the result is the state; message is place and length of the first 03h entry's value, and stays as it was where refused"
-#[unsafe(no_mangle)]
-pub extern "C" fn uistermo_type5(memory: &[u8], message: &mut [u32; 2]) -> u64
-    ensures { Type5Leaves memory.now message.old message.new result }
-{
-    let p = type5::profile_of(memory);
-    let refusal = p.refusal;
-    if number(refusal) != 0 {
-        return refused(refusal);
-    }
-    message[0] = p.start;
-    message[1] = p.count;
-    p.state as u64
 }

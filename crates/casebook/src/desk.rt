@@ -10,7 +10,7 @@ use caselines::entries::put_entries;
 use caselines::form::{Form, after, form_of};
 use caselines::lent::{Lent, lend};
 use caselines::limits::{ENTRIES, FRAME, IMAGE, TAGS, UID, UIDS};
-use caselines::row::{put_call, put_profile, put_search};
+use caselines::row::{put_call, put_search};
 use packed::RECORD;
 
 // What a line leaves: what is lent, and how many bytes its answer line has.
@@ -109,16 +109,6 @@ fn search(n: usize, digits: &[u8], out: &mut [u8]) -> usize
     search_into(&uids[..tags], &mut list[..n], out)
 }
 
-// "the profile of the lent memory": the answer line does not show where its message lies
-fn profile(memory: &[u8], out: &mut [u8]) -> usize
-    requires { row_most ≤ length out.old }
-    ensures { result ≤ length out.new }
-{
-    let mut message = [0u32; 2];
-    let result = cabi::uistermo_type5(memory, &mut message);
-    put_profile(result, out)
-}
-
 // "the record, exactly 72 bytes, kept as they stand", "bytes into the memory, within it"
 fn take(digits: &[u8], into: &mut [u8], out: &mut [u8]) -> usize
     requires { (length digits.now ≤ 2 * length into.old) × (row_most ≤ length out.old) }
@@ -150,7 +140,6 @@ fn act(
         Form::Bytes { at, from } => take(after(line, from), &mut memory[at..], out),
         Form::Event { kind, from } => event(kind, after(line, from), tag, memory, room, out),
         Form::Search { entries, from } => search(entries, after(line, from), out),
-        Form::Profile => profile(memory, out),
         Form::NoForm => put::copy(b"?\n", out),
     }
 }

@@ -120,8 +120,7 @@ module _ (memory : ℕ) (l : List ℕ) where
   form_fits =
       if-one OfLine (same l (bytes_of_text "ON")) (λ h. omega arith) (λ h.
       if-one OfLine (same l (bytes_of_text "OFF")) (λ h. omega arith) (λ h.
-      if-one OfLine (same l (bytes_of_text "EOF")) (λ h. omega arith) (λ h.
-      if-one OfLine (same l (bytes_of_text "TYPE5")) (λ h. tt) (λ h. number_fits))))
+      if-one OfLine (same l (bytes_of_text "EOF")) (λ h. omega arith) (λ h. number_fits)))
 
 -- the digits of a line, from a place on
 pub digits_most : (l : List ℕ) (from : ℕ) {s : List ℕ} {n : ℕ} → s ≡ drop from l → length l - from ≤ n → length s ≤ n

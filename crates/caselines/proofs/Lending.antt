@@ -7,7 +7,7 @@ use native.Mathlib.Omega.{arith}
 use lib.ListN.{length, take}
 use lib.Seq.{length-take-le}
 use Rattle.caselines.specs.declared.form.Form.{Form}
-use Rattle.caselines.specs.declared.form.Form.TheVariants.{Memory, Room, Save, Record, Load, Factory, Bytes, Event, Search, Profile, NoForm}
+use Rattle.caselines.specs.declared.form.Form.TheVariants.{Memory, Room, Save, Record, Load, Factory, Bytes, Event, Search, NoForm}
 use Rattle.caselines.specs.Limits.{memory_most, room_most}
 use Rattle.caselines.specs.Form.{form_of, Fits}
 use Rattle.caselines.proofs.Fitting.{form_fits}
@@ -25,7 +25,6 @@ lent_fits (Factory from) l line h = h
 lent_fits (Bytes at from) l line h = h
 lent_fits (Event kind from) l line h = h
 lent_fits (Search n from) l line h = h
-lent_fits Profile l line h = h
 lent_fits NoForm l line h = h
 
 lent_within : (f : Form) (l : Lent) (line : ℕ) → Fits l.memory line f → Within l → Within (lent_by f l)
@@ -38,7 +37,6 @@ lent_within (Factory from) l line h w = w
 lent_within (Bytes at from) l line h w = w
 lent_within (Event kind from) l line h w = w
 lent_within (Search n from) l line h w = w
-lent_within Profile l line h w = w
 lent_within NoForm l line h w = w
 
 -- a line's form, and what is lent after it

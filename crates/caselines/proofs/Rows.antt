@@ -3,7 +3,7 @@
 use mathlib.Core.Path.{◌≡◌, sym, ◌∙◌}
 use mathlib.Core.Logic.{⊎_elim}
 use mathlib.Core.Bool.{true, false}
-use mathlib.Core.List.{List, [], ◌∷◌, ◌++◌, append-nil, append_assoc}
+use mathlib.Core.List.{List, [], ◌∷◌, ◌++◌, append-nil}
 use Prim.Native.Nat.{ℕ, ◌+◌, ◌-◌, ◌*◌, ◌≤◌, ◌<◌, min}
 use native.Mathlib.Omega.{arith}
 use lib.ListN.{length, take, drop, length-append}
@@ -20,8 +20,7 @@ use Rattle.packed.specs.Bytes.{record_length}
 use Rattle.packed.specs.Result.{refusal_in, place_in, length_in}
 use Rattle.caselines.specs.Limits.{room_most, row_most, uid_length, entries_most}
 use Rattle.caselines.specs.Entries.{entry_bytes}
-use Rattle.caselines.specs.Row.{field, crc_high, is_lettered, refusal_text, has_place, column_text, numbers_text, pair_text, row_text, search_row_text}
-use Rattle.caselines.specs.Row.{profile_text}
+use Rattle.caselines.specs.Row.{crc_high, fault_text, is_lettered, column_text, numbers_text, pair_text, row_text, search_row_text}
 use Rattle.caselines.proofs.Eights.{entry_bytes_length}
 
 -- a text has room where it has with what follows it
@@ -48,24 +47,14 @@ end_within end p h = omega (arith, sum (one_next (begun (end ∷ []) p h)))
 
 -- ---- the number column
 
-module _ (number : ℕ) where
-  pub refusal_decimal : is_lettered number ≡ false → refusal_text number ≡ decimal_of number
-  unfolding refusal_text
-  refusal_decimal h = rw h
+module _ (number place : ℕ) where
+  pub column_plain : is_lettered number ≡ false → column_text number place ≡ decimal_of number
+  unfolding column_text
+  column_plain h = rw h
 
-  pub refusal_lettered : is_lettered number ≡ true → refusal_text number ≡ 0x35 ∷ (0x61 + (number - 0x5A)) ∷ []
-  unfolding refusal_text
-  refusal_lettered h = rw h
-
-  module _ (place : ℕ) where
-    pub column_plain : has_place number ≡ false → column_text number place ≡ refusal_text number
-    unfolding column_text
-    column_plain h = rw h
-
-    -- the colon ends the number, and a space the place
-    pub column_placed : has_place number ≡ true → field 0x20 (column_text number place) ≡ field 0x3A (refusal_text number) ++ field 0x20 (decimal_of place)
-    unfolding column_text
-    column_placed h = rw h (append_assoc (field 0x3A (refusal_text number)) (decimal_of place) (0x20 ∷ []))
+  pub column_fault : is_lettered number ≡ true → column_text number place ≡ fault_text (0x61 + (number - 0x5A)) place
+  unfolding column_text
+  column_fault h = rw h
 
 pub letter_range : (number : ℕ) → is_lettered number ≡ true → (0x5A ≤ number) × (number ≤ 0x5E)
 letter_range number h =
@@ -74,17 +63,13 @@ letter_range number h =
 
 -- ---- how long an answer line is
 
--- the number column: number and place
-refusal_most : (number : ℕ) → length (refusal_text number) ≤ 20
-unfolding refusal_text
-refusal_most number = if-one (λ (s : List ℕ). length s ≤ 20) (is_lettered number) (λ q. omega arith) (λ q. decimal_length 19 number)
-
-column_most : (number place : ℕ) → length (column_text number place) ≤ 41
+-- the number column
+column_most : (number place : ℕ) → length (column_text number place) ≤ 23
 unfolding column_text
 column_most number place =
-    if-one (λ (s : List ℕ). length s ≤ 41) (has_place number)
-    (λ q. simp length-append (omega (arith, refusal_most number, decimal_length 19 place)))
-    (λ q. omega (arith, refusal_most number))
+    if-one (λ (s : List ℕ). length s ≤ 23) (is_lettered number)
+    (λ q. omega (arith, decimal_length 19 place))
+    (λ q. omega (arith, decimal_length 19 number))
 
 -- it has room in row_most bytes, where the answer is no longer than the room can be
 pub row_most_lem : (result : ℕ) (answer tag memory room : List ℕ)
@@ -114,11 +99,6 @@ search_row_most result found list h =
       hex_or_most 0x2D (entry_bytes found) (uid_length * entries_most) (omega arith) (omega (arith, entry_bytes_length found)),
       hex_or_most 0x2D (crc_high (entry_bytes list)) 2 (omega arith) (omega arith),
     ))
-
--- and that of a profile
-pub profile_most : (result : ℕ) → length (profile_text result) ≤ row_most
-unfolding numbers_text
-profile_most result = simp length-append (omega (arith, column_most (refusal_in result) (place_in result), decimal_length 19 (length_in result)))
 
 -- ---- how much of the room is shown
 

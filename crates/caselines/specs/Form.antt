@@ -7,7 +7,7 @@ use Rattle.packed.specs.Bytes.{record_length}
 use Rattle.caselines.specs.declared.form.Number.{Number}
 use Rattle.caselines.specs.declared.form.Number.TheVariants.{Of, NoNumber}
 use Rattle.caselines.specs.declared.form.Form.{Form}
-use Rattle.caselines.specs.declared.form.Form.TheVariants.{Memory, Room, Save, Record, Load, Factory, Bytes, Event, Search, Profile, NoForm}
+use Rattle.caselines.specs.declared.form.Form.TheVariants.{Memory, Room, Save, Record, Load, Factory, Bytes, Event, Search, NoForm}
 use Rattle.caselines.specs.Limits.{memory_most, room_most, image_most, frame_most, uid_length, entries_most, tags_most}
 
 -- a line that begins with a word and what follows it
@@ -100,7 +100,7 @@ search_form s =
     if leb (length s) (space_in s) then NoForm else
     tags_by (number_in entries_most (take (space_in s) s)) (space_in s) s
 
--- ---- a line, beside a memory of so many bytes; kinds of events are numbered as cabi does; a word that takes nothing "ends its line"
+-- ---- a line, beside a memory of so many bytes; kinds of events are numbered as cabi does
 
 unfoldable pub hex_form : ℕ → List ℕ → Form
 hex_form memory l =
@@ -121,8 +121,7 @@ unfoldable pub form_of : ℕ → List ℕ → Form
 form_of memory l =
     if same l (bytes_of_text "ON") then Event 0 (length l) else
     if same l (bytes_of_text "OFF") then Event 1 (length l) else
-    if same l (bytes_of_text "EOF") then Event 2 (length l) else
-    if same l (bytes_of_text "TYPE5") then Profile else number_form memory l
+    if same l (bytes_of_text "EOF") then Event 2 (length l) else number_form memory l
 
 -- what a form says of its numbers, in a line of so many bytes beside a memory of so many
 abbrev pub Fits : ℕ → ℕ → Form → Type 0
@@ -135,5 +134,4 @@ Fits memory line (Factory from) = line - from ≤ 2 * uid_length
 Fits memory line (Bytes at from) = (at ≤ memory) × (line - from ≤ 2 * (memory - at))
 Fits memory line (Event kind from) = line - from ≤ 2 * frame_most
 Fits memory line (Search n from) = (n ≤ entries_most) × (line - from ≤ 2 * (uid_length * tags_most))
-Fits memory line Profile = Unit {0}
 Fits memory line NoForm = Unit {0}

@@ -2,7 +2,7 @@
 -- Assumes nothing.
 use Rattle.std.specs.Prelude.{ℕ, ◌≤◌, ◌≡◌, List, length, replicate}
 use Rattle.caselines.specs.declared.form.Form.{Form}
-use Rattle.caselines.specs.declared.form.Form.TheVariants.{Memory, Room, Save, Record, Load, Factory, Bytes, Event, Search, Profile, NoForm}
+use Rattle.caselines.specs.declared.form.Form.TheVariants.{Memory, Room, Save, Record, Load, Factory, Bytes, Event, Search, NoForm}
 use Rattle.caselines.specs.declared.lent.Lent.{Lent}
 use Rattle.caselines.specs.Limits.{memory_most, room_most}
 
@@ -17,7 +17,6 @@ lent_by (Factory from) l = l
 lent_by (Bytes at from) l = l
 lent_by (Event kind from) l = l
 lent_by (Search n from) l = l
-lent_by Profile l = l
 lent_by NoForm l = l
 
 -- the buffers after it: the one that a part is lent of anew is filled, all of it
@@ -31,7 +30,6 @@ memory_by (Factory from) m = m
 memory_by (Bytes at from) m = m
 memory_by (Event kind from) m = m
 memory_by (Search n from) m = m
-memory_by Profile m = m
 memory_by NoForm m = m
 
 abbrev pub room_by : Form → List ℕ → List ℕ
@@ -44,7 +42,6 @@ room_by (Factory from) x = x
 room_by (Bytes at from) x = x
 room_by (Event kind from) x = x
 room_by (Search n from) x = x
-room_by Profile x = x
 room_by NoForm x = x
 
 -- what a line lends: how much, and every byte of the buffers

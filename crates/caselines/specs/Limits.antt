@@ -35,7 +35,7 @@ tags_most = 300
 abbrev pub line_most : ℕ
 line_most = 6 + 2 * memory_most + 1
 
--- number, place and length of at most 20 figures, an answer as long as the room, the record, and two sums of four digits, each with the colon,
--- space or newline after it
+-- three characters and two numbers of at most 20 figures with a space each, an answer as long as the room, the record, and two sums of four
+-- digits, each with the space or newline after it
 abbrev pub row_most : ℕ
-row_most = 3 * 21 + (2 * room_most + 1) + (2 * record_length + 1) + 10
+row_most = 45 + (2 * room_most + 1) + (2 * record_length + 1) + 10

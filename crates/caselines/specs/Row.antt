@@ -1,7 +1,6 @@
--- The answer line of a call: "`number length answer record memory room`", of a search: "`number requests list room`", and of a profile:
--- "`number state`".
+-- The answer line of a call: "`number length answer record memory room`", and of a search: "`number requests list room`".
 -- Assumes nothing.
-use Rattle.std.specs.Prelude.{ℕ, ◌+◌, ◌-◌, ◌/◌, ◌%◌, ◌≤◌, Bool, ◌&&◌, ◌||◌, List, [], ◌∷◌, ◌++◌, take, leb, eqb}
+use Rattle.std.specs.Prelude.{ℕ, ◌+◌, ◌-◌, ◌/◌, ◌%◌, ◌≤◌, Bool, ◌&&◌, List, [], ◌∷◌, ◌++◌, take, leb, eqb}
 use Rattle.put.specs.If.{if◌then◌else◌}
 use Rattle.crc.specs.Crc.{crc_of}
 use Rattle.text.specs.Text.{hex_or, decimal_of}
@@ -13,7 +12,7 @@ use Rattle.caselines.specs.Entries.{entry_bytes}
 abbrev pub shown : List ℕ → List ℕ
 shown bytes = hex_or 0x2D bytes
 
--- a text, and the colon, space or newline after it
+-- a text, and the space or newline after it
 abbrev pub field : ℕ → List ℕ → List ℕ
 field end text = text ++ (end ∷ [])
 
@@ -21,29 +20,20 @@ field end text = text ++ (end ∷ [])
 abbrev pub crc_high : List ℕ → List ℕ
 crc_high bytes = crc_of bytes / 256 ∷ crc_of bytes % 256 ∷ []
 
--- ---- the number column
+-- a fault of a header, "with their place, also where it is 0: `5a:0`, `5d:15`": 5Ah to 5Eh have the letters a to e
+abbrev pub fault_text : ℕ → ℕ → List ℕ
+fault_text letter place = 0x35 ∷ letter ∷ 0x3A ∷ decimal_of place
 
--- "5a to 5e being 5Ah to 5Eh"
 abbrev pub is_lettered : ℕ → Bool
 is_lettered number = leb 0x5A number && leb number 0x5E
 
--- a number by itself: 5 and a letter, a to e, or decimal
-unfoldable pub refusal_text : ℕ → List ℕ
-refusal_text number = if is_lettered number then 0x35 ∷ (0x61 + (number - 0x5A)) ∷ [] else decimal_of number
-
--- "5a to 5e, 8, 9 and 10 are printed with their place"; "all others have none"
-abbrev pub has_place : ℕ → Bool
-has_place number = is_lettered number || (leb 8 number && leb number 10)
-
--- "also where it is 0: `5a:0`, `5d:15`, `8:0`, `9:6`, `10:42`"
+-- the number and its place: "all others have none"
 unfoldable pub column_text : ℕ → ℕ → List ℕ
-column_text number place = if has_place number then field 0x3A (refusal_text number) ++ decimal_of place else refusal_text number
+column_text number place = if is_lettered number then fault_text (0x61 + (number - 0x5A)) place else decimal_of number
 
--- number, with its place, and length of a result; and the space or newline after it
-unfoldable pub numbers_text : ℕ → ℕ → List ℕ
-numbers_text end result = field 0x20 (column_text (refusal_in result) (place_in result)) ++ field end (decimal_of (length_in result))
-
--- ---- a call
+-- number, with its place, and length of a result
+unfoldable pub numbers_text : ℕ → List ℕ
+numbers_text result = field 0x20 (column_text (refusal_in result) (place_in result)) ++ field 0x20 (decimal_of (length_in result))
 
 unfoldable pub pair_text : ℕ → List ℕ → List ℕ → List ℕ
 pair_text end a b = field 0x20 (shown a) ++ field end (shown b)
@@ -55,7 +45,7 @@ abbrev pub rest_text : List ℕ → List ℕ → List ℕ → List ℕ → List 
 rest_text answer tag memory room = pair_text 0x20 answer tag ++ sums_text memory room
 
 unfoldable pub row_text : ℕ → List ℕ → List ℕ → List ℕ → List ℕ → List ℕ
-row_text result answer tag memory room = numbers_text 0x20 result ++ rest_text answer tag memory room
+row_text result answer tag memory room = numbers_text result ++ rest_text answer tag memory room
 
 -- the line of a call: what it answered stands at the start of room
 unfoldable pub call_text : ℕ → List ℕ → List ℕ → List ℕ → List ℕ
@@ -73,7 +63,7 @@ abbrev pub list_text : List ℕ → List ℕ → List ℕ
 list_text found list = pair_text 0x0A (entry_bytes found) (crc_high (entry_bytes list))
 
 unfoldable pub search_row_text : ℕ → List ℕ → List ℕ → List ℕ
-search_row_text result found list = numbers_text 0x20 result ++ list_text found list
+search_row_text result found list = numbers_text result ++ list_text found list
 
 -- the UIDs found stand at the start of the list, as many as tags were given; "Refused: `6 0 - room`"
 abbrev pub found_in : ℕ → ℕ → List ℕ → List ℕ
@@ -92,9 +82,3 @@ pub record SuitsLists (found list : ℕ) : Type 0 where
 pub record SuitsSearch (list out : ℕ) : Type 0 where
   pub of_list : list ≤ entries_most
   pub of_out : row_most ≤ out
-
--- ---- a profile
-
--- "`number state`": "the length of the result is the state"
-abbrev pub profile_text : ℕ → List ℕ
-profile_text result = numbers_text 0x0A result

@@ -45,7 +45,6 @@ pub enum Form {
     Bytes { at: usize, from: usize },
     Event { kind: u32, from: usize },
     Search { entries: usize, from: usize },
-    Profile,
     NoForm,
 }
 
@@ -297,9 +296,6 @@ pub fn form_of(line: &[u8], memory: usize) -> Form
             kind: END_OF_FRAME,
             from,
         };
-    }
-    if text::is_same(line, b"TYPE5") {
-        return Form::Profile;
     }
     number_form(line, memory)
 }

@@ -33,7 +33,6 @@ pub fn lend(form: Form, lent: Lent, memory: &mut [u8], room: &mut [u8]) -> Lent
             entries: _,
             from: _,
         } => lent,
-        Form::Profile => lent,
         Form::NoForm => lent,
     }
 }

@@ -30,6 +30,6 @@ pub const UIDS: usize = UID * TAGS;
 // The longest line that has a form, `PUT 0 ` and a whole memory in hex, and one byte more, by which a longer line is told.
 pub const LINE: usize = 6 + 2 * MEMORY + 1;
 
-// The longest answer line: number, place and length of at most 20 figures, an answer as long as the room, the record, and two sums of four digits,
-// each with the colon, space or newline after it.
-pub const ROW: usize = 3 * 21 + (2 * ROOM + 1) + (2 * RECORD + 1) + 10;
+// The longest answer line: three characters and two numbers of at most 20 figures with a space each, an answer as long as the room, the record,
+// and two sums of four digits, each with the space or newline after it.
+pub const ROW: usize = 45 + (2 * ROOM + 1) + (2 * RECORD + 1) + 10;

@@ -1,14 +1,13 @@
-// The answer line of a call: "`number length answer record memory room`", of a search: "`number requests list room`", and of a profile:
-// "`number state`".
+// The answer line of a call: "`number length answer record memory room`", and of a search: "`number requests list room`".
 ghost use Rattle.std.specs.Prelude.{◌≤◌, min, ◌≡◌, length};
 ghost use Rattle.put.specs.Put.{Put};
 ghost use Rattle.text.specs.Text.{decimal_of};
 ghost use Rattle.packed.specs.Result.{refusal_in};
-ghost use Rattle.caselines.specs.Limits.{row_most, entries_most};
+ghost use Rattle.caselines.specs.Limits.{entries_most};
 ghost use Rattle.caselines.specs.Entries.{entry_bytes};
 ghost use Rattle.caselines.specs.Row.{list_text, search_row_text, search_text, SuitsLists, SuitsSearch};
-ghost use Rattle.caselines.specs.Row.{shown, field, crc_high, is_lettered, refusal_text, has_place, column_text, numbers_text};
-ghost use Rattle.caselines.specs.Row.{pair_text, sums_text, rest_text, row_text, call_text, Suits, profile_text};
+ghost use Rattle.caselines.specs.Row.{shown, field, crc_high, fault_text, is_lettered, column_text, numbers_text, pair_text, sums_text, rest_text};
+ghost use Rattle.caselines.specs.Row.{row_text, call_text, Suits};
 
 use super::entries::put_entry_bytes;
 use super::limits::LIST;
@@ -25,13 +24,13 @@ const NEWLINE: u8 = 0x0A;
 // What stands for no bytes.
 const NONE: u8 = 0x2D;
 
-// A number in decimal, and a colon, space or newline.
-fn put_number(n: u64, end: u8, out: &mut [u8]) -> usize
-    requires { length (field end (decimal_of n)) ≤ length out.old }
-    ensures { Put (field end (decimal_of n)) out.old out.new result }
+// A number in decimal, and a space.
+fn put_number(n: u64, out: &mut [u8]) -> usize
+    requires { length (field 0x20 (decimal_of n)) ≤ length out.old }
+    ensures { Put (field 0x20 (decimal_of n)) out.old out.new result }
 {
     let at = text::put_decimal(n, out);
-    out[at] = end;
+    out[at] = SPACE;
     at + 1
 }
 
@@ -53,43 +52,32 @@ fn crc_high(bytes: &[u8]) -> [u8; 2]
     [(c / 256) as u8, (c % 256) as u8]
 }
 
-// "5a to 5e being 5Ah to 5Eh"
+// "`5a:0`, `5d:15`", and a space.
+fn put_fault(letter: u8, place: u64, out: &mut [u8]) -> usize
+    requires { length (field 0x20 (fault_text letter place)) ≤ length out.old }
+    ensures { Put (field 0x20 (fault_text letter place)) out.old out.new result }
+{
+    let first = [FIVE, letter, COLON];
+    let at = put::copy(&first, out);
+    at + put_number(place, &mut out[at..])
+}
+
+// 5a to 5e, as a result has them.
 fn is_lettered(number: u64) -> bool
     ensures { result ≡ is_lettered number }
 {
     (0x5A <= number) & (number <= 0x5E)
 }
 
-// A number by itself, 5 and a letter or decimal, and a colon or space.
-fn put_refusal(number: u64, end: u8, out: &mut [u8]) -> usize
-    requires { length (field end (refusal_text number)) ≤ length out.old }
-    ensures { Put (field end (refusal_text number)) out.old out.new result }
-{
-    if !is_lettered(number) {
-        return put_number(number, end, out);
-    }
-    let letter = 0x61 + (number - 0x5A) as u8;
-    let lettered = [FIVE, letter, end];
-    put::copy(&lettered, out)
-}
-
-// "5a to 5e, 8, 9 and 10 are printed with their place"; "all others have none"
-fn has_place(number: u64) -> bool
-    ensures { result ≡ has_place number }
-{
-    is_lettered(number) | ((8 <= number) & (number <= 10))
-}
-
-// "also where it is 0: `5a:0`, `5d:15`, `8:0`, `9:6`, `10:42`"; and a space.
+// A number, 5a to 5e "with their place, also where it is 0", "all others have none"; and a space.
 fn put_column(number: u64, place: u64, out: &mut [u8]) -> usize
     requires { length (field 0x20 (column_text number place)) ≤ length out.old }
     ensures { Put (field 0x20 (column_text number place)) out.old out.new result }
 {
-    if !has_place(number) {
-        return put_refusal(number, SPACE, out);
+    if !is_lettered(number) {
+        return put_number(number, out);
     }
-    let at = put_refusal(number, COLON, out);
-    at + put_number(place, SPACE, &mut out[at..])
+    put_fault(0x61 + (number - 0x5A) as u8, place, out)
 }
 
 // The number of a result, in 16 bits of it.
@@ -99,13 +87,13 @@ fn refusal_in(res: u64) -> u64
     res / 0x1_0000_0000 % 0x1_0000
 }
 
-// Number, with its place, and length of a result; and a space or newline.
-fn put_numbers(res: u64, end: u8, out: &mut [u8]) -> usize
-    requires { length (numbers_text end res) ≤ length out.old }
-    ensures { Put (numbers_text end res) out.old out.new result }
+// Number, with its place, and length of a result.
+fn put_numbers(res: u64, out: &mut [u8]) -> usize
+    requires { length (numbers_text res) ≤ length out.old }
+    ensures { Put (numbers_text res) out.old out.new result }
 {
     let at = put_column(refusal_in(res), res / 0x1_0000_0000_0000, out);
-    at + put_number(res % 0x1_0000_0000, end, &mut out[at..])
+    at + put_number(res % 0x1_0000_0000, &mut out[at..])
 }
 
 fn put_pair(a: &[u8], b: &[u8], end: u8, out: &mut [u8]) -> usize
@@ -147,7 +135,7 @@ pub fn put_row(
     ensures { Put (row_text res answer.now tag.now memory.now room.now)
         out.old out.new result }
 {
-    let at = put_numbers(res, SPACE, out);
+    let at = put_numbers(res, out);
     at + put_rest(answer, tag, memory, room, &mut out[at..])
 }
 
@@ -204,7 +192,7 @@ fn put_search_row(res: u64, found: &[u64], list: &[u64], out: &mut [u8]) -> usiz
     requires list_in_bounds { length (search_row_text res found.now list.now) ≤ length out.old }
     ensures { Put (search_row_text res found.now list.now) out.old out.new result }
 {
-    let at = put_numbers(res, SPACE, out);
+    let at = put_numbers(res, out);
     at + put_list(found, list, &mut out[at..])
 }
 
@@ -218,12 +206,4 @@ pub fn put_search(res: u64, tags: usize, list: &[u64], out: &mut [u8]) -> usize
     }
     let n = least(tags, list.len());
     put_search_row(res, &list[..n], list, out)
-}
-
-// The line of a profile that gave a result: "the length of the result is the state"
-pub fn put_profile(res: u64, out: &mut [u8]) -> usize
-    requires { row_most ≤ length out.old }
-    ensures { Put (profile_text res) out.old out.new result }
-{
-    put_numbers(res, NEWLINE, out)
 }

@@ -51,13 +51,13 @@ module _ {k : ℕ} where
 
 -- ---- bytes and numbers of several bytes
 
-pub byte_at_lem : {s : List ℕ} (i : ℕ) → Bytes s → get_or s i 0 < 256
-byte_at_lem i p = below_at i (omega arith) p
+pub byte_at : {s : List ℕ} (i : ℕ) → Bytes s → get_or s i 0 < 256
+byte_at i p = below_at i (omega arith) p
 
 pub number_below : {s : List ℕ} (k at : ℕ) → Bytes s → number_at k s at < 256 ^ k
 unfolding number_at
 number_below zero at p = omega arith
-number_below (suc k) at p = rw pow-suc (omega (arith, byte_at_lem at p, number_below k (at + 1) p))
+number_below (suc k) at p = rw pow-suc (omega (arith, byte_at at p, number_below k (at + 1) p))
 
 pub bytes_of_lem : (k n : ℕ) → Bytes (bytes_of k n)
 unfolding bytes_of

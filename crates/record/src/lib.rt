@@ -59,7 +59,7 @@ pub enum Kind {
     Request,
 }
 
-// "Host calls and their numbers", and those of 02: a fault of a header or of a Type 5 profile has the place of its byte
+// "Host calls and their numbers", and those of 02: a fault of a header has the place of its byte
 #[derive(Drop)]
 pub enum Refusal {
     None,
@@ -74,9 +74,6 @@ pub enum Refusal {
     Reserved(u8),
     Tags,
     Equal,
-    Container(u16),
-    Length(u16),
-    Tlv(u16),
     Small,
 }
 

@@ -9,7 +9,7 @@ use native.Mathlib.Omega.{arith}
 use lib.ListN.{length, get_or}
 use lib.Dec.{ltb, eqb}
 use Rattle.put.specs.Number.{number_at, bytes_of}
-use Rattle.put.proofs.Bytes.{Bytes, none, more, below_append, below_take, below_drop, below_replicate, byte_at_lem, number_below, bytes_of_lem}
+use Rattle.put.proofs.Bytes.{Bytes, none, more, below_append, below_take, below_drop, below_replicate, byte_at, number_below, bytes_of_lem}
 use Rattle.crc.proofs.Bytes.{crc_bytes_lem}
 use Rattle.rights.specs.declared.View.{View}
 use Rattle.rights.specs.declared.Verdict.TheVariants.{Success, Error}
@@ -69,11 +69,11 @@ act_ranged {v} g p (shape.states limit first count h) = says_in (statuses_bytes 
 act_ranged g p shape.presented = presents_in
 act_ranged g p (shape.blocks_written e first n h) = writes_in (blocks_ranged first n (below_drop (head_of e) p))
 act_ranged g p (shape.block_locked second) = writes_in (unit_and (block_lock_in second) no_unit)
-act_ranged g p shape.afi_written = writes_in (unit_and (afi_in (byte_at_lem 0 p)) no_unit)
+act_ranged g p shape.afi_written = writes_in (unit_and (afi_in (byte_at 0 p)) no_unit)
 act_ranged g p shape.afi_locked = writes_in (unit_and afi_lock_in no_unit)
-act_ranged g p shape.dsfid_written = writes_in (unit_and (dsfid_in (byte_at_lem 0 p)) no_unit)
+act_ranged g p shape.dsfid_written = writes_in (unit_and (dsfid_in (byte_at 0 p)) no_unit)
 act_ranged g p shape.dsfid_locked = writes_in (unit_and dsfid_lock_in no_unit)
-act_ranged g p (shape.register_written address h) = writes_in (unit_and (register_in (byte_at_lem 1 p)) no_unit)
+act_ranged g p (shape.register_written address h) = writes_in (unit_and (register_in (byte_at 1 p)) no_unit)
 act_ranged g p (shape.password_written n h) = writes_in (unit_and (password_in (number_below 8 1 p)) no_unit)
 
 -- ---- what an event comes to
@@ -117,7 +117,7 @@ field_ranged r g p shape.deselected = record { front = state_ranged (dropped_ran
 field_ranged r g p (shape.refused c h) = record { front = dropped_ranged r; act = says_in (verdict_bytes (Error c) h) }
 field_ranged r g p shape.found = record { front = dropped_ranged r; act = says_in (inventory_bytes (dropped_ranged r)) }
 field_ranged r g p (shape.opened {f} u o) =
-    let first = more zero_byte (more (byte_at_lem (mask_at f) (fields_bytes 2 p)) none) in
+    let first = more zero_byte (more (byte_at (mask_at f) (fields_bytes 2 p)) none) in
     record { front = round_ranged (dropped_ranged r) (round.Open 0 (mask_length f)) first; act = slot_ranged 0 (mask_length f) (dropped_ranged r) }
 field_ranged r g p (shape.done {f} h a) =
     let front = front_by RangedFront (dropped_ranged r) (state_ranged (dropped_ranged r)) (entry_of (code_of f)).command in
@@ -207,11 +207,11 @@ pub loaded_ranged : {i : List ℕ} → Bytes i → Ranged (tag_in i)
 unfolding tag_in
 loaded_ranged {i} p =
     let password : (at : ℕ) → number_at 8 i at < 2 ^ 64 = λ at. number_below 8 at p in
-    let later = more (byte_at_lem 15 p) (more (byte_at_lem 16 p) (more (byte_at_lem 17 p) (more (byte_at_lem 18 p) none))) in
+    let later = more (byte_at 15 p) (more (byte_at 16 p) (more (byte_at 17 p) (more (byte_at 18 p) none))) in
     record {
-      front = record { uid = number_below 8 1 p; afi = byte_at_lem 9 p; dsfid = byte_at_lem 10 p; round = none; held = none };
+      front = record { uid = number_below 8 1 p; afi = byte_at 9 p; dsfid = byte_at 10 p; round = none; held = none };
       vault = record {
-        bytes = more (byte_at_lem 12 p) (more (byte_at_lem 13 p) (more (byte_at_lem 14 p) later));
+        bytes = more (byte_at 12 p) (more (byte_at 13 p) (more (byte_at 14 p) later));
         four = refl;
         passwords = more (password 19) (more (password 27) (more (password 35) (more (password 43) none)));
       };

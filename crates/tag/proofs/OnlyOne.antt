@@ -5,7 +5,7 @@
 use Prim.Native.Nat.{ℕ}
 use native.Mathlib.Omega.{arith}
 use mathlib.Core.Path.{◌≡◌, refl, sym, ap, ◌∙◌}
-use mathlib.Core.Bool.{Bool, true, false, not, ◌&&◌, ◌||◌}
+use mathlib.Core.Bool.{Bool, true, false, not, ◌&&◌}
 use mathlib.Core.List.{List}
 use lib.Dec.{leb, ltb, eqb}
 use lib.ListN.{length}
@@ -48,9 +48,6 @@ refusal_of n place =
     if eqb n 0x5E then refusal.Reserved place else
     if eqb n 6 then refusal.Tags else
     if eqb n 7 then refusal.Equal else
-    if eqb n 8 then refusal.Container place else
-    if eqb n 9 then refusal.Length place else
-    if eqb n 10 then refusal.Tlv place else
     if eqb n 18 then refusal.Small else refusal.None
 
 refusal_again : (r : Refusal) → refusal_of (number_of r) (place_of r) ≡ r
@@ -67,13 +64,10 @@ refusal_again (refusal.End place) = refl
 refusal_again (refusal.Reserved place) = refl
 refusal_again refusal.Tags = refl
 refusal_again refusal.Equal = refl
-refusal_again (refusal.Container place) = refl
-refusal_again (refusal.Length place) = refl
-refusal_again (refusal.Tlv place) = refl
 refusal_again refusal.Small = refl
 
 -- refusals of one number and one place are one
-pub one_refusal : (r s : Refusal) {n p : ℕ} → number_of r ≡ n → number_of s ≡ n → place_of r ≡ p → place_of s ≡ p → r ≡ s
+one_refusal : (r s : Refusal) {n p : ℕ} → number_of r ≡ n → number_of s ≡ n → place_of r ≡ p → place_of s ≡ p → r ≡ s
 one_refusal r s h k u v =
     sym (refusal_again r) ∙ ap (λ n. refusal_of n (place_of r)) (one-result h k) ∙ ap (refusal_of (number_of s)) (one-result u v) ∙ refusal_again s
 
@@ -88,9 +82,9 @@ not_placed h = let z : ◌≡◌ {A = ℕ} 0 1 = ap (λ (b : Bool). if b then 0 
 
 -- the numbers that come with a place
 abbrev pub has_place : ℕ → Bool
-has_place n = (leb 8 n && leb n 10) || (leb 0x5A n && leb n 0x5E)
+has_place n = leb 0x5A n && leb n 0x5E
 
--- 8 to 10 and 5a to 5e alone have a place
+-- 5a to 5e alone have a place
 pub no_place : (r : Refusal) → has_place (number_of r) ≡ false → place_of r ≡ 0
 no_place refusal.None h = refl
 no_place refusal.Memory h = refl
@@ -104,9 +98,6 @@ no_place (refusal.End place) h = absurd (not_placed h)
 no_place (refusal.Reserved place) h = absurd (not_placed h)
 no_place refusal.Tags h = refl
 no_place refusal.Equal h = refl
-no_place (refusal.Container place) h = absurd (not_placed h)
-no_place (refusal.Length place) h = absurd (not_placed h)
-no_place (refusal.Tlv place) h = absurd (not_placed h)
 no_place refusal.Small h = refl
 
 -- 02, of number 5: "It becomes 5a size mark, 5b lock byte, 5c protection byte, 5d area end, 5e reserved byte". No refusal has it any more
@@ -175,11 +166,11 @@ pub record LoadOutcome : Type 0 where
   pub memory : List ℕ
 
 -- some refusal has a number and a place
-pub record Placed (n place : ℕ) : Type 0 where
-  pub some : number_of (refusal_of n place) ≡ n
-  pub there : place_of (refusal_of n place) ≡ place
+record Placed (n place : ℕ) : Type 0 where
+  some : number_of (refusal_of n place) ≡ n
+  there : place_of (refusal_of n place) ≡ place
 
-pub placed : (n place : ℕ) → number_of (refusal_of n place) ≡ n → place_of (refusal_of n place) ≡ place → Placed n place
+placed : (n place : ℕ) → number_of (refusal_of n place) ≡ n → place_of (refusal_of n place) ≡ place → Placed n place
 placed n place p q = record { some = p; there = q }
 
 one_filled : (g : LoadGiven) → Placed g.number g.place → ExactlyOne (λ (o : LoadOutcome). Fills g o.memory o.result)

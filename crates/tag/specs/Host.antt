@@ -26,12 +26,9 @@ number_of (refusal.End place) = 0x5D
 number_of (refusal.Reserved place) = 0x5E
 number_of refusal.Tags = 6
 number_of refusal.Equal = 7
-number_of (refusal.Container place) = 8
-number_of (refusal.Length place) = 9
-number_of (refusal.Tlv place) = 10
 number_of refusal.Small = 18
 
--- 02: ".. with the lowest offending byte's place", ".. with the place of the byte at fault"; 0 for a refusal that has none
+-- 02: ".. with the lowest offending byte's place", 0 for a refusal that has none
 abbrev pub place_of : Refusal → ℕ
 place_of refusal.None = 0
 place_of refusal.Memory = 0
@@ -45,9 +42,6 @@ place_of (refusal.End place) = place
 place_of (refusal.Reserved place) = place
 place_of refusal.Tags = 0
 place_of refusal.Equal = 0
-place_of (refusal.Container place) = place
-place_of (refusal.Length place) = place
-place_of (refusal.Tlv place) = place
 place_of refusal.Small = 0
 
 -- number and place, as of a fault

@@ -109,13 +109,8 @@ act_spec =
     (λ c κs. search rules)
     search_requires
     (λ c. search rules)
-    (λ c κs. search rules)
-    (λ c. search rules)
     (λ c. search rules)
     (λ c κs. search rules)
-    (λ c. search rules)
-    (λ c. search rules)
-    (λ c. search rules)
     (λ c. search rules)
     (λ c. search rules)
     (λ c. search rules)

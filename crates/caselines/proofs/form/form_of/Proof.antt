@@ -35,34 +35,18 @@ returns-3 c =
     ∙ past _ _ t2.before.is-same2.ensures t2.if2.false
     ∙ here _ _ t3.before.is-same3.ensures t3.if3.true)
 
--- `TYPE5`
+-- any other line
 returns-4 : tie.Need-returns-4
 unfolding bytes_of_text form_of
 returns-4 c =
-    let t4 = c in
-    let t3 = t4.before.before.before in
-    let t2 = t3.before.before.before in
-    let t1 = t2.before.before.before in
-    sym
-    (past _ _ t1.before.is_same.ensures t1.if1.false
-    ∙ past _ _ t2.before.is-same2.ensures t2.if2.false
-    ∙ past _ _ t3.before.is-same3.ensures t3.if3.false
-    ∙ here _ _ t4.before.is-same4.ensures t4.if4.true)
-
--- any other line
-returns-5 : tie.Need-returns-5
-unfolding bytes_of_text form_of
-returns-5 c =
-    let t4 = c.before in
-    let t3 = t4.before.before.before in
+    let t3 = c.before in
     let t2 = t3.before.before.before in
     let t1 = t2.before.before.before in
     c.number-form.ensures ∙
     sym
     (past _ _ t1.before.is_same.ensures t1.if1.false
     ∙ past _ _ t2.before.is-same2.ensures t2.if2.false
-    ∙ past _ _ t3.before.is-same3.ensures t3.if3.false
-    ∙ past _ _ t4.before.is-same4.ensures t4.if4.false)
+    ∙ past _ _ t3.before.is-same3.ensures t3.if3.false)
 
 pub form_of_spec : {M : Type 1} → statement M
 form_of_spec =
@@ -77,8 +61,5 @@ form_of_spec =
     (λ c. search rules)
     (λ c κs. search rules)
     returns-3
-    (λ c. search rules)
     (λ c κs. search rules)
-    returns-4
-    (λ c κs. search rules)
-    returns-5)
+    returns-4)

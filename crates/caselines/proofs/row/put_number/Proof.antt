@@ -1,4 +1,4 @@
--- `caselines::row::put_number` meets its contract: the number, and a byte after it.
+-- `caselines::row::put_number` meets its contract: the number, and a space after it.
 -- Assumes nothing.
 use mathlib.Core.List.{[], ◌∷◌}
 use native.Mathlib.Omega.{arith}
@@ -13,25 +13,19 @@ use Rattle.caselines.proofs.row.put_number.Tie as tie
 put_decimal_requires : tie.Need-put-decimal-requires
 put_decimal_requires c κs =
     let s = c.before.before in
-    first_room (decimal_of s.args.n) (s.args.end ∷ []) s.requires
+    first_room (decimal_of s.args.n) (0x20 ∷ []) s.requires
 
--- and so has the byte after it
+-- and so has the space
 slice-write-out : tie.Need-slice-write-out
-slice-write-out c =
-    let s = c.before.before.before.before.before in
-    end_within s.args.end c.before.before.put-decimal.ensures s.requires
+slice-write-out c = end_within 0x20 c.before.before.put-decimal.ensures c.before.before.before.before.before.requires
 
 -- its place after that does not wrap
 add-result : tie.Need-overflow-add-result
-add-result c =
-    let s = c.before.before.before.before.before in
-    omega (arith, end_within s.args.end c.before.before.put-decimal.ensures s.requires)
+add-result c = omega (arith, end_within 0x20 c.before.before.put-decimal.ensures c.before.before.before.before.before.requires)
 
 -- which ends it
 returns : tie.Need-returns
-returns c =
-    let s = c.before.before.before.before.before in
-    put_last s.args.end c.before.before.put-decimal.ensures s.requires
+returns c = put_last 0x20 c.before.before.put-decimal.ensures c.before.before.before.before.before.requires
 
 pub put_number_spec : {M : Type 1} → statement M
 put_number_spec =

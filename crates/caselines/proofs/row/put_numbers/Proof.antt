@@ -17,7 +17,7 @@ put_column_requires c κs =
     let s = c.before.before.before in
     let result = s.args.res in
     rw c.before.refusal-in.ensures
-    (first_room (field 0x20 (column_text (refusal_in result) (place_in result))) (field s.args.end (decimal_of (length_in result))) s.requires)
+    (first_room (field 0x20 (column_text (refusal_in result) (place_in result))) (field 0x20 (decimal_of (length_in result))) s.requires)
 
 -- what it leaves begins within out
 sub-put-number : tie.Need-overflow-sub-put-number
@@ -33,7 +33,7 @@ unfolding numbers_text
 put_number_requires c κs =
     let column = c.before.before.before in
     let s = column.before.before.before.before in
-    second_room (field s.args.end (decimal_of (length_in s.args.res)))
+    second_room (field 0x20 (decimal_of (length_in s.args.res)))
     (rw column.before.before.refusal-in.ensures at column.put-column.ensures) s.requires
 
 -- both lie within out

@@ -14,7 +14,7 @@ unfolding row_text
 put_numbers_requires c κs =
     let s = c.before.before.before.before.before.before in
     let rest = rest_text s.args.answer.now s.args.tag.now s.args.memory.now s.args.room.now in
-    first_room (numbers_text 0x20 s.args.res) rest s.requires
+    first_room (numbers_text s.args.res) rest s.requires
 
 -- what it leaves begins within out
 sub-put-rest : tie.Need-overflow-sub-put-rest

@@ -13,7 +13,7 @@ put_numbers_requires : tie.Need-put-numbers-requires
 unfolding search_row_text
 put_numbers_requires c κs =
     let s = c.before.before.before.before in
-    first_room (numbers_text 0x20 s.args.res) (list_text s.args.found.now s.args.list.now) s.requires.1
+    first_room (numbers_text s.args.res) (list_text s.args.found.now s.args.list.now) s.requires.1
 
 -- what it leaves begins within out
 sub-put-list : tie.Need-overflow-sub-put-list
