@@ -113,8 +113,9 @@ def code(line, names, comment):
 def turned(path, names):
     old = read(path)
     if path.endswith('.md'):
+        names = {a: b for a, b in names.items() if a not in AGAIN}
         return old, re.sub(r'`[^`\n]*`', lambda m: put(m.group(0), names), old)
-    mine = imported(old)
+    mine = imported(old) if path.endswith('.antt') else AGAIN
     names = {a: b for a, b in names.items() if a not in mine}
     comment = '//' if path.endswith('.rt') else '#' if path.endswith('.edit') else '--'
     return old, '\n'.join(code(line, names, comment) for line in old.split('\n'))

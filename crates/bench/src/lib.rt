@@ -1,5 +1,7 @@
 // "The bench holds one tag record, and each event updates that record": the record is lent by `&mut`, the step of `host` is taken on it by
 // value, and the next record is stored in its place. Any record, any bytes and any buffers are taken, as by `host`.
+#![tactic(auto)]
+
 ghost use Rattle.tag.specs.Step.{event_of};
 ghost use Rattle.tag.specs.Host.{event_given, EventGives};
 ghost use Rattle.bench.specs.Updates.{Updates};
@@ -7,7 +9,7 @@ ghost use Rattle.bench.specs.Updates.{Updates};
 use record::{Kind, Outcome, Refusal, Tag};
 
 // What an event gives where the record is lent: refusal, and length of the answer in the room
-#[derive(Drop)]
+#[derive(Clone, Copy)]
 pub struct Said {
     pub refusal: Refusal,
     pub length: usize,

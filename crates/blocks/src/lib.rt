@@ -1,5 +1,7 @@
 // "Blocks and areas" of document 01 on lent memory: reads of several blocks, their status, block writes and block locks. Each is decided
 // first, from what any reader may learn, and then done.
+#![tactic(auto)]
+
 ghost use Rattle.std.specs.Prelude.{◌≡◌, ◌+◌, ◌*◌, ◌≤◌, length};
 ghost use Rattle.put.specs.If.{if◌then◌else◌};
 ghost use Rattle.put.specs.Put.{Put};

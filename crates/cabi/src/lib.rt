@@ -1,5 +1,7 @@
 // The C boundary: the calls of a host over bytes, and for a search over UIDs, so that the bench's C host links the proved tag. The record is 72 bytes that
 // the caller keeps; any bytes are taken, and those that are no record are refused. `include/uistermo.h` says the same in C.
+#![tactic(auto)]
+
 ghost use Rattle.std.specs.Prelude.{◌≡◌};
 ghost use Rattle.tag.specs.Host.{number_of, place_of};
 ghost use Rattle.packed.specs.Result.{result_of};

@@ -14,7 +14,7 @@ use caselines::row::{put_call, put_search};
 use packed::RECORD;
 
 // What a line leaves: what is lent, and how many bytes its answer line has.
-#[derive(Drop)]
+#[derive(Clone, Copy)]
 pub struct Done {
     pub lent: Lent,
     pub length: usize,

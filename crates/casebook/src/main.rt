@@ -1,5 +1,7 @@
 // The bench's own test program: standard input to standard output, in pieces and with constant memory. Each line is a call over the C
 // boundary, and its answer line is written when the line is complete.
+#![tactic(auto)]
+
 mod desk; // desk.rt: the lent buffers, and what a line does to them
 
 ghost use Rattle.std.specs.Prelude.{◌≡◌, ◌≤◌, length};
@@ -19,7 +21,7 @@ const NEWLINE: u8 = 0x0A;
 
 // How far the program is: the record, what is lent, how much of a line is there, and whether the output took all that was written. The line so
 // far is kept up to LINE bytes, one more than the longest that has a form: a longer line has none, whatever comes.
-#[derive(Drop)]
+#[derive(Clone, Copy)]
 struct Progress {
     tag: [u8; RECORD],
     lent: Lent,

@@ -27,14 +27,14 @@ const UID_DIGITS: usize = 2 * UID;
 
 const UIDS_DIGITS: usize = 2 * UIDS;
 
-#[derive(Drop)]
+#[derive(Clone, Copy)]
 pub enum Number {
     Of(usize),
     NoNumber,
 }
 
 // The lines of the table, with the number that a line names, or where in the line its digits begin: they end it.
-#[derive(Drop)]
+#[derive(Clone, Copy)]
 pub enum Form {
     Memory(usize),
     Room(usize),

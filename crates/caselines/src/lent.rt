@@ -4,7 +4,7 @@ ghost use Rattle.caselines.specs.Lent.{Lends};
 use super::form::Form;
 
 // How many bytes are lent as memory and as room: the first of the buffers that hold them.
-#[derive(Drop)]
+#[derive(Clone, Copy)]
 pub struct Lent {
     pub memory: usize,
     pub room: usize,

@@ -1,5 +1,7 @@
 // The CRC of ISO/IEC 15693, as document 01 says it: reflected polynomial 8408h, start FFFFh, complemented, low byte first. It is worked half a
 // byte at a time from sixteen numbers. Of a loop over eight bits a compiler makes a table of 256 numbers, which takes 512 bytes.
+#![tactic(auto)]
+
 ghost use Rattle.std.specs.Prelude.{◌≡◌};
 ghost use Rattle.crc.specs.Crc.{crc_of, crc_bytes};
 ghost use Rattle.crc.specs.Halves.{sixteen_numbers, half_by, byte_by};

@@ -125,7 +125,7 @@ fn high_bits(n: u64, count: u8) -> u64
 }
 
 // "The lowest mask-length bits of the UID must match", "spare bits not compared"
-fn mask_fits_lem(front: Front, frame: &[u8]) -> bool
+fn mask_fits(front: Front, frame: &[u8]) -> bool
     ensures { result ≡ mask_fits front frame.now }
 {
     let count = mask_length(frame);
@@ -146,6 +146,6 @@ pub fn unheard_inventory(front: Front, frame: &[u8]) -> bool
 {
     let state = front.state;
     let badly_made = mask_too_long(frame) | wrong_length(frame);
-    let fits = afi_fits(front, frame) & mask_fits_lem(front, frame);
+    let fits = afi_fits(front, frame) & mask_fits(front, frame);
     badly_made | (is_quiet(state) | !fits)
 }

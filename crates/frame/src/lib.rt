@@ -1,5 +1,7 @@
 // From a frame's bytes to what is heard: "Checks, first match wins", checks 2 to 10 of document 01, one function a check, asked in 01's
 // order. Any bytes are taken, an empty frame too.
+#![tactic(auto)]
+
 mod checks; // checks.rt: each check of a frame
 pub mod inventory; // inventory.rt: the fields of Inventory, and whether the tag hears it
 mod places; // places.rt: where flags, code, UID, fields and CRC stand

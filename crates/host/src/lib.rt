@@ -1,5 +1,7 @@
 // The calls of a host: event, load, save and factory, with the numbers 1 to 4 of document 01 and 5a to 5e of 02. Any record, any bytes and any
 // buffers are taken, and each call ends; no caller need test anything first.
+#![tactic(auto)]
+
 pub mod rules; // rules.rt: the record rules
 
 ghost use Rattle.std.specs.Prelude.{◌≡◌, ◌&&◌, ◌||◌, ◌+◌, eqb};

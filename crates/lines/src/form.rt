@@ -8,7 +8,7 @@ ghost use Rattle.lines.specs.Form.{is_request, form_of};
 use record::Kind;
 
 // "ON, OFF, EOF, or a request", each of which is an event of a kind, or "a line of no such form"
-#[derive(Drop)]
+#[derive(Clone, Copy)]
 pub enum Form {
     Event(Kind),
     NoForm,

@@ -1,4 +1,6 @@
 // The text of a session, as document 01 says ("Session program"): one call for each input byte, and one for the end of the input.
+#![tactic(auto)]
+
 mod form; // form.rt: what a line is, and the frame of a request
 mod output; // output.rt: an output line
 
@@ -15,7 +17,7 @@ use record::{Kind, Outcome, Tag};
 
 // How far a session is: the tag, the number of the next output line, and the line so far, which is kept up to 129 bytes: a longer line has
 // no form, whatever comes.
-#[derive(Drop)]
+#[derive(Clone, Copy)]
 pub struct Progress {
     pub tag: Tag,
     pub number: u64,
@@ -24,7 +26,7 @@ pub struct Progress {
 }
 
 // What a call gives: how far the session is then, and how many bytes of output it wrote.
-#[derive(Drop)]
+#[derive(Clone, Copy)]
 pub struct Fed {
     pub progress: Progress,
     pub length: usize,

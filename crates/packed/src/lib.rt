@@ -1,4 +1,6 @@
 // "The record as 72 bytes", the form in which a host in C keeps it: from bytes to record, what bytes are a record, and from record to bytes.
+#![tactic(auto)]
+
 ghost use Rattle.std.specs.Prelude.{◌≡◌, ◌+◌, ◌*◌, length, get_or};
 ghost use Rattle.record.specs.declared.Held.TheVariants.{Answer};
 ghost use Rattle.tag.specs.Rules.{off_rule, together_rule};

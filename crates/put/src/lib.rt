@@ -1,5 +1,7 @@
 // Bytes in lent slices: what a function that writes into lent room promises, numbers of several bytes, lowest byte first,
 // copies, and filling. It knows no tag.
+#![tactic(auto)]
+
 ghost use Rattle.std.specs.Prelude.{◌≡◌, ◌+◌, ◌*◌, ◌≤◌, ◌<◌, length, get_or, take, replicate};
 ghost use Rattle.put.specs.Put.{Put};
 ghost use Rattle.put.specs.Number.{number_at, bytes_of};

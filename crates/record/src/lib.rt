@@ -1,6 +1,8 @@
 // The tag's record by value, in two halves: what any reader may learn (Front), and what guards the memory (Vault, of `rights`).
 // Lasting: UID, AFI, DSFID, five lock bits, seven area registers, four passwords. Passing: field, state, the open session, an inventory
 // round, a held answer. User memory is lent beside it, and its length gives the size. Events, refusals, tests and setters stand here too.
+#![tactic(auto)]
+
 ghost use Rattle.std.specs.Prelude.{◌≡◌};
 ghost use Rattle.record.specs.Tests.{is_ready, is_quiet, is_selected, no_round, none_held};
 ghost use Rattle.record.specs.Update.{with_state, with_round, with_held, with_afi, with_dsfid, with_afi_locked, with_dsfid_locked};
@@ -8,7 +10,7 @@ ghost use Rattle.record.specs.Update.{with_front, with_vault, passing_cleared, s
 
 use rights::{Keys, Session, Vault, Verdict};
 
-#[derive(Drop)]
+#[derive(Clone, Copy)]
 pub enum State {
     Ready,
     Quiet,
@@ -16,20 +18,20 @@ pub enum State {
 }
 
 // "an inventory round": the running slot, and the mask length that it was opened with
-#[derive(Drop)]
+#[derive(Clone, Copy)]
 pub enum Round {
     None,
     Open { slot: u8, mask: u8 },
 }
 
 // "a held answer": success or an error code
-#[derive(Drop)]
+#[derive(Clone, Copy)]
 pub enum Held {
     None,
     Answer(Verdict),
 }
 
-#[derive(Drop)]
+#[derive(Clone, Copy)]
 pub struct Front {
     // lasting
     pub uid: u64,
@@ -44,14 +46,14 @@ pub struct Front {
     pub held: Held,
 }
 
-#[derive(Drop)]
+#[derive(Clone, Copy)]
 pub struct Tag {
     pub front: Front,
     pub vault: Vault,
 }
 
 // What kind of event happens to a tag: the field comes or goes, a frame ends, or a request comes, whose bytes are lent beside it.
-#[derive(Drop)]
+#[derive(Clone, Copy)]
 pub enum Kind {
     FieldOn,
     FieldOff,
@@ -60,7 +62,7 @@ pub enum Kind {
 }
 
 // "Host calls and their numbers", and those of 02: a fault of a header has the place of its byte
-#[derive(Drop)]
+#[derive(Clone, Copy)]
 pub enum Refusal {
     None,
     Memory,
@@ -78,7 +80,7 @@ pub enum Refusal {
 }
 
 // What a host call gives: refusal, length of the answer or of the saved image, and the record
-#[derive(Drop)]
+#[derive(Clone, Copy)]
 pub struct Outcome {
     pub refusal: Refusal,
     pub length: usize,

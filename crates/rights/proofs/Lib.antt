@@ -6,4 +6,4 @@ pub mod Addresses
 pub mod Possible
 pub mod Examples
 pub mod Ranges
-pub mod Hidden
+pub mod HiddenBlocks

@@ -1,5 +1,7 @@
 // The rules for areas and passwords of document 01, "reviewed and released apart from framing": which blocks may be read and written
 // under the open session, what a presented password does, and which registers may be written with which values.
+#![tactic(auto)]
+
 pub mod blocks; // blocks.rt: areas, what may be read and written in them, runs of blocks
 pub mod passwords; // passwords.rt: presenting and changing a password
 pub mod registers; // registers.rt: reading and writing a register, possible registers
@@ -8,7 +10,7 @@ ghost use Rattle.std.specs.Prelude.{◌≡◌};
 ghost use Rattle.rights.specs.Vault.{view_of};
 
 // "the one open session or none"
-#[derive(Drop)]
+#[derive(Clone, Copy)]
 pub enum Session {
     None,
     Configuration,
@@ -18,7 +20,7 @@ pub enum Session {
 }
 
 // "seven area registers", in the order of the image
-#[derive(Drop)]
+#[derive(Clone, Copy)]
 pub struct Areas {
     pub rfa1ss: u8,
     pub enda1: u8,
@@ -30,14 +32,14 @@ pub struct Areas {
 }
 
 // "four 64-bit passwords (number 0 is configuration)", lasting, and the open session, passing
-#[derive(Drop)]
+#[derive(Clone, Copy)]
 pub struct Keys {
     pub passwords: [u64; 4],
     pub session: Session,
 }
 
 // What the tag guards its memory with: registers, the locks of blocks 0 and 1, LOCK_CFG, and the keys
-#[derive(Drop)]
+#[derive(Clone, Copy)]
 pub struct Vault {
     pub areas: Areas,
     pub lock0: bool,
@@ -47,7 +49,7 @@ pub struct Vault {
 }
 
 // All of a vault but the passwords: what a decision may look at
-#[derive(Drop)]
+#[derive(Clone, Copy)]
 pub struct View {
     pub areas: Areas,
     pub lock0: bool,
@@ -57,7 +59,7 @@ pub struct View {
 }
 
 // "Success begins 00h; an error is 01h, code"
-#[derive(Drop)]
+#[derive(Clone, Copy)]
 pub enum Verdict {
     Success,
     Error(u8),

@@ -5,13 +5,13 @@ ghost use Rattle.rights.specs.Passwords.{is_open, any_open, session_of, present_
 
 use super::{Keys, Session, Verdict};
 
-#[derive(Drop)]
+#[derive(Clone, Copy)]
 pub struct Presentation {
     pub answer: Verdict,
     pub keys: Keys,
 }
 
-#[derive(Drop)]
+#[derive(Clone, Copy)]
 pub struct PasswordChange {
     pub answer: Verdict,
     pub keys: Keys,

@@ -7,13 +7,13 @@ ghost use Rattle.rights.specs.Registers.{one_if, register_at, is_register, allow
 use super::passwords::is_open;
 use super::{Areas, Vault, Verdict, View};
 
-#[derive(Drop)]
+#[derive(Clone, Copy)]
 pub enum RegisterRead {
     Error(u8),
     Value(u8),
 }
 
-#[derive(Drop)]
+#[derive(Clone, Copy)]
 pub struct RegisterWrite {
     pub answer: Verdict,
     pub vault: Vault,

@@ -1,5 +1,7 @@
 // One event on a record by value: commands, held answers, inventory rounds, the end of a frame, field on and off, and the answer with its
 // CRC. Memory and answer room are lent.
+#![tactic(auto)]
+
 mod answers; // answers.rt: answers as they are written, at once or held
 mod commands; // commands.rt: what each command does
 mod rounds; // rounds.rt: Inventory and its rounds, the end of a frame
@@ -21,7 +23,7 @@ use rounds::{end_frame, take_inventory};
 use tag::Heard;
 
 // The length of the answer, 0 for silence, and the record after it. `step` alone gives it with the CRC: in what it calls the answer has none yet.
-#[derive(Drop)]
+#[derive(Clone, Copy)]
 pub struct Said {
     pub length: usize,
     pub tag: Tag,

@@ -175,9 +175,9 @@ pub record RangedRan (x : Ran) : Type 0 where
 pub run_ranged : {t : Tag} {m : List ℕ} (es : List Event) → Ranged t → Bytes m → EachBytes (map sent es) → RangedRan (run t m es)
 unfolding run
 run_ranged [] r q p = record { answers = none_left; tag = r; memory = q }
-run_ranged (e ∷ es) r q (first_and p ps) =
+run_ranged {t = t} {m = m} (e ∷ es) r q (first_and p ps) =
     let s = step_ranged e r q p in
-    let x = run_ranged es s.tag s.memory ps in
+    let x = run_ranged {t = (step t m e).tag} {m = (step t m e).memory} es s.tag s.memory ps in
     record { answers = first_and s.answer x.answers; tag = x.tag; memory = x.memory }
 
 -- ---- images

@@ -15,7 +15,7 @@ use Rattle.rights.specs.Vault.{view_of}
 use Rattle.rights.specs.Passwords.{password_of}
 use Rattle.rights.specs.Blocks.{OnlyThis}
 use Rattle.rights.proofs.Cases.{or_true, or-one, both, join}
-use Rattle.rights.proofs.Hidden.{hidden_by_one}
+use Rattle.rights.proofs.HiddenBlocks.{hidden_by_one}
 use Rattle.record.specs.declared.Tag.{Tag}
 use Rattle.tag.specs.Step.{Event, step}
 use Rattle.tag.specs.Host.{event_given}

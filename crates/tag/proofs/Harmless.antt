@@ -15,7 +15,7 @@ use Rattle.rights.specs.declared.View.{View}
 use Rattle.rights.specs.Passwords.{is_open}
 use Rattle.rights.specs.Blocks.{any_barred, hidden_by}
 use Rattle.rights.proofs.Cases.{or_true, join}
-use Rattle.rights.proofs.Hidden.{other_false, writable_unhidden, none_barred, written_open}
+use Rattle.rights.proofs.HiddenBlocks.{other_false, writable_unhidden, none_barred, written_open}
 use Rattle.record.specs.declared.Front.{Front}
 use Rattle.tag.specs.declared.Command.{Command}
 use Rattle.tag.specs.Work.{Unit, block, register, afi, dsfid, block_lock, afi_lock, dsfid_lock, password, Act, says, lists, presents, writes, closes, Work}

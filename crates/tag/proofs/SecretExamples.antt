@@ -17,7 +17,7 @@ use Rattle.rights.specs.Vault.{view_of}
 use Rattle.rights.specs.Passwords.{session_of, is_open, password_of, present_of, change_verdict}
 use Rattle.rights.specs.Blocks.{area_of, register_of, serves, may_read, may_write, readable_at, writable_at, locked_at, barred_at, status_at, crosses_at, any_barred, hidden_by}
 use Rattle.rights.specs.Registers.{register_at, is_register, allows, permits, register_verdict, with_register, possible}
-use Rattle.rights.proofs.Hidden.{none_open, hidden_by_one}
+use Rattle.rights.proofs.HiddenBlocks.{none_open, hidden_by_one}
 use Rattle.record.specs.declared.Tag.{Tag}
 use Rattle.tag.specs.Rules.{blocks_of, off_rule, round_rule, held_rule, together_rule, sound}
 use Rattle.tag.specs.Table.{entry_of, first_of, more_of, head_of, limit_of, length_of}

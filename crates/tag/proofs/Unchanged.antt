@@ -15,7 +15,7 @@ use Rattle.rights.specs.Vault.{view_of}
 use Rattle.rights.specs.Blocks.{hidden_by}
 use Rattle.rights.proofs.Cases.{both}
 use Rattle.rights.proofs.Sessions.{present_keeps}
-use Rattle.rights.proofs.Hidden.{none_open, present_shut}
+use Rattle.rights.proofs.HiddenBlocks.{none_open, present_shut}
 use Rattle.record.specs.declared.Tag.{Tag}
 use Rattle.record.specs.Update.{with_front}
 use Rattle.tag.specs.Rules.{blocks_of}

@@ -14,7 +14,7 @@ use Rattle.rights.specs.Passwords.{password_of}
 use Rattle.rights.specs.Blocks.{readable_at, status_at}
 use Rattle.rights.proofs.Cases.{both}
 use Rattle.rights.proofs.Sessions.{present_keeps}
-use Rattle.rights.proofs.Hidden.{readable_unhidden, present_same}
+use Rattle.rights.proofs.HiddenBlocks.{readable_unhidden, present_same}
 use Rattle.record.specs.declared.Front.{Front}
 use Rattle.record.specs.declared.Tag.{Tag}
 use Rattle.record.specs.declared.Held.TheVariants as held

@@ -1,8 +1,10 @@
 // The definition of the base of document 01, in specs/, with the theorems over it, in proofs/. Of code there is only what the definition
 // and the code above it share: the command table's types, and what is heard of a frame.
+#![tactic(auto)]
+
 
 // The work that a command asks for.
-#[derive(Drop)]
+#[derive(Clone, Copy)]
 pub enum Command {
     StayQuiet,
     Read,
@@ -23,14 +25,14 @@ pub enum Command {
 }
 
 // How many bytes a command's fields have: a number, or a number and four for each block that is written.
-#[derive(Drop)]
+#[derive(Clone, Copy)]
 pub enum Length {
     Fixed(u8),
     PerBlock(u8),
 }
 
 // What a command does with Option_flag: error 03h, its own use of it, or hold the answer.
-#[derive(Drop)]
+#[derive(Clone, Copy)]
 pub enum OptionRule {
     Refused,
     Taken,
@@ -38,7 +40,7 @@ pub enum OptionRule {
 }
 
 // A row of the command table. Block numbers, and counts, have two bytes where the command is wide; a count is there where it is many.
-#[derive(Drop)]
+#[derive(Clone, Copy)]
 pub struct Entry {
     pub command: Command,
     pub wide: bool,
@@ -49,7 +51,7 @@ pub struct Entry {
 
 // What is heard of a frame: nothing that counts; a Select of another tag, by which this one is deselected; an Inventory; an error; or a
 // request, whose fields begin at a place.
-#[derive(Drop)]
+#[derive(Clone, Copy)]
 pub enum Heard {
     Silence,
     Deselected,

@@ -1,5 +1,7 @@
 // The session program of document 01: standard input to standard output, whatever its size, in pieces and with constant memory. Each byte goes
 // to `lines`, and each output line is written when its input line is complete.
+#![tactic(auto)]
+
 ghost use Rattle.std.specs.Prelude.{◌≤◌, length};
 
 use lines::Progress;
@@ -9,7 +11,7 @@ const STDIN: i32 = 0;
 const STDOUT: i32 = 1;
 
 // How far a run is, and whether every read and write went well.
-#[derive(Drop)]
+#[derive(Clone, Copy)]
 struct Course {
     progress: Progress,
     well: bool,

@@ -1,4 +1,6 @@
 // Bytes as text: two texts compared, bytes in hex and back, numbers in decimal. It knows no tag.
+#![tactic(auto)]
+
 ghost use Rattle.std.specs.Prelude.{◌≡◌, ◌≤◌, ◌<◌, length};
 ghost use Rattle.put.specs.Put.{Put};
 ghost use Rattle.text.specs.Text.{same, hex_digit, hex_of, hex_or, is_figure, is_letter, is_digit, all_digits, value_of, bytes_in, decimal_of};

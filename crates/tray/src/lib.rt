@@ -1,5 +1,7 @@
 // Finding every tag on a tray (W-201): the search that a reader makes, over tags that are given by their UIDs and are all Ready. specs/Tray.antt says
 // what it finds and sends, specs/Tags.antt what the tags of document 01 say to it. Quoted words are document 02's.
+#![tactic(auto)]
+
 ghost use Rattle.std.specs.Prelude.{◌≡◌, ◌<◌, get_or};
 ghost use Rattle.tag.specs.Host.{number_of};
 ghost use Rattle.tag.specs.Inventory.{low_bits, next_four, fits};
@@ -9,14 +11,14 @@ ghost use Rattle.tray.specs.Steps.{Counted, Listened, Grows, Asks, Asked, AsksSl
 use record::Refusal;
 
 // How many UIDs were written to the room that was lent, and how many requests were sent.
-#[derive(Drop)]
+#[derive(Clone, Copy)]
 pub struct Found {
     pub count: usize,
     pub requests: u32,
 }
 
 // "The result gives the number of Inventory requests sent": 0 where the search is refused.
-#[derive(Drop)]
+#[derive(Clone, Copy)]
 pub struct Searched {
     pub refusal: Refusal,
     pub requests: u32,

@@ -1,0 +1,14 @@
+-- `caselines::form::room_form` meets its contract, in each arm.
+-- Assumes nothing.
+use mathlib.Core.Path.{sym, ap, ◌∙◌}
+use Rattle.caselines.specs.Form.{room_of}
+use borrow.Author.Rules.{rules}
+use Rattle.caselines.proofs.form.room_form.Goals as goal
+
+-- a number of the range
+pub returns-in-Of : goal.returns-in-Of
+returns-in-Of c = ap room_of (sym c.in-Of.is ∙ c.number_in-number.ensures)
+
+-- no number, or one past it
+pub returns-in-NoNumber : goal.returns-in-NoNumber
+returns-in-NoNumber c = ap room_of (sym c.in-NoNumber.is ∙ c.number_in-number.ensures)

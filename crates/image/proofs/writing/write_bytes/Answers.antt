@@ -1,0 +1,7 @@
+-- `image::writing::write_bytes` meets its contract.
+-- Assumes nothing.
+use borrow.Author.Rules.{rules}
+use Rattle.image.proofs.writing.write_bytes.Goals as goal
+
+pub returns : goal.returns
+returns c = rw (← c.lock_byte-locks.ensures) c.copy.ensures

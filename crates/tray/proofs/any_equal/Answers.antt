@@ -1,0 +1,26 @@
+-- `tray::any_equal` meets its contract.
+-- Assumes nothing.
+use mathlib.Core.Path.{◌≡◌, refl, sym, ◌∙◌}
+use Prim.Native.Nat.{◌-◌}
+use lib.ListN.{length, drop}
+use borrow.Author.Rules.{rules}
+use Rattle.tray.specs.Tray.{any_equal}
+use Rattle.tray.proofs.Places.{equal_here, equal_later, equal_none}
+use Rattle.tray.proofs.any_equal.Goals as goal
+
+pub loop-i-init : goal.loop-i-init
+loop-i-init c = refl
+
+-- this one comes again
+pub returns-then-is_in : goal.returns-then-is_in
+returns-then-is_in c = 
+    sym (equal_here _ _ c.loop-i-test.true (sym c.is_in.ensures ∙ c.if-is_in.true)) ∙ c.loop-i.invariant
+
+-- it does not: a later one, if any
+pub loop-i-preserved : goal.loop-i-preserved
+loop-i-preserved c = 
+    sym (equal_later _ _ c.loop-i-test.true (sym c.is_in.ensures ∙ c.if-is_in.false)) ∙ c.loop-i.invariant
+
+-- none does
+pub returns : goal.returns
+returns c = sym (equal_none _ _ c.loop-i-test.false) ∙ c.loop-i.invariant

@@ -1,0 +1,14 @@
+-- `tray::one_more` meets its contract.
+-- Assumes nothing.
+use native.Mathlib.Omega.{arith}
+use borrow.Author.Rules.{rules}
+use Rattle.tray.proofs.Groups.{count_fits, counted}
+use Rattle.tray.proofs.one_more.Goals as goal
+
+-- the slot's four bits do not hold 15: the sum fits 64 bits
+pub overflow_add-result : goal.overflow_add-result
+overflow_add-result c = omega (arith, count_fits c.requires c.next_four.ensures c.if-next_four-eq15.false (omega arith))
+
+-- .. and is one more there
+pub returns : goal.returns
+returns c = counted c.requires c.next_four.ensures c.if-next_four-eq15.false
