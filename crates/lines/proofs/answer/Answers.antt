@@ -14,7 +14,7 @@ pub slice_bounds-say-end-2 : goal.slice_bounds-say-end-2
 slice_bounds-say-end-2 c = sym (length-take-le _ _ (within c.happen-o.ensures))
 
 pub say-requires : goal.say-requires
-say-requires c = (rw (length-take-le _ _ (within c.happen-o.ensures)) (omega (arith, within c.happen-o.ensures, c.happen-o.auto.1.1.1.1.0, c.requires.of_room)), c.requires.of_out)
+say-requires c = (rw (length-take-le _ _ (within c.happen-o.ensures)) (omega (arith, within c.happen-o.ensures, c.happen-o.auto.room, c.requires.of_room)), c.requires.of_out)
 
 pub returns : goal.returns
 returns c = answered c.args.kind c.args.p c.args.line.now c.happen-o.ensures c.say.ensures

@@ -14,15 +14,15 @@ cut-n-requires c = search rules
 
 pub slice_bounds-line-end : goal.slice_bounds-line-end
 unfolding ended
-slice_bounds-line-end c = cut_within c.args.p.length c.args.p.line c.cut-n.ensures (simp length-map at c.well-formed.0.1.1.1.1.1.0.1.0.1)
+slice_bounds-line-end c = cut_within c.args.p.length c.args.p.line c.cut-n.ensures c.well_formed.0.1.1.1.1.1.0.1.0.1
 
 pub slice_bounds-answer_line-end : goal.slice_bounds-answer_line-end
 unfolding ended
-slice_bounds-answer_line-end c = sym (cut_length c.args.p.length c.args.p.line c.cut-n.ensures (simp length-map at c.well-formed.0.1.1.1.1.1.0.1.0.1))
+slice_bounds-answer_line-end c = sym (cut_length c.args.p.length c.args.p.line c.cut-n.ensures c.well_formed.0.1.1.1.1.1.0.1.0.1)
 
 pub answer_line-requires : goal.answer_line-requires
 unfolding ended
-answer_line-requires c = record { of_line = omega (arith, cut_length c.args.p.length c.args.p.line c.cut-n.ensures (simp length-map at c.well-formed.0.1.1.1.1.1.0.1.0.1), c.cut-n.ensures); of_room = c.requires.of_room; of_out = c.requires.of_out }
+answer_line-requires c = record { of_line = omega (arith, cut_length c.args.p.length c.args.p.line c.cut-n.ensures c.well_formed.0.1.1.1.1.1.0.1.0.1, c.cut-n.ensures); of_room = c.requires.of_room; of_out = c.requires.of_out }
 
 pub shape_of-memory : goal.shape_of-memory
 unfolding ended
@@ -38,4 +38,4 @@ shape_of-out c = search rules
 
 pub returns : goal.returns
 unfolding ended
-returns c = rw (cut_same c.args.p.length c.args.p.line c.cut-n.ensures (simp length-map at c.well-formed.0.1.1.1.1.1.0.1.0.1)) at c.answer_line.ensures
+returns c = rw (cut_same c.args.p.length c.args.p.line c.cut-n.ensures c.well_formed.0.1.1.1.1.1.0.1.0.1) at c.answer_line.ensures

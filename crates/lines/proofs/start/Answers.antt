@@ -13,4 +13,4 @@ unfolding started factory_given
 returns c = 
     let size : length c.args.memory.now ≡ 2048 = search rules in
     let made = c.factory-o.ensures in
-    (rw (made.tag, size), rw size c made.memory)
+    (rw (made.tag, size), rw size at made.memory)

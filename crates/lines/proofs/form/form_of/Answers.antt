@@ -5,34 +5,23 @@ use Rattle.lines.specs.Form.{form_of}
 use borrow.Author.Rules.{rules}
 use Rattle.lines.proofs.form.form_of.Goals as goal
 
-pub is_same-requires : goal.is_same-requires
-unfolding bytes_of_text form_of
-is_same-requires c = search rules
-
+-- ON
 pub returns-then-is_same : goal.returns-then-is_same
 unfolding bytes_of_text form_of
-returns-then-is_same c = search rules
+returns-then-is_same c = rw (← c.is_same.ensures, c.if-is_same.true)
 
-pub is_same-requires-2 : goal.is_same-requires-2
-unfolding bytes_of_text form_of
-is_same-requires-2 c = rw (← c.is_same.ensures, c.if-is_same.false, ← c.is_same-2.ensures, c.if-is_same-2.true)
-
+-- OFF
 pub returns-then-is_same-2 : goal.returns-then-is_same-2
 unfolding bytes_of_text form_of
-returns-then-is_same-2 c = search rules
+returns-then-is_same-2 c = rw (← c.is_same.ensures, c.if-is_same.false, ← c.is_same-2.ensures, c.if-is_same-2.true)
 
-pub is_same-requires-3 : goal.is_same-requires-3
-unfolding bytes_of_text form_of
-is_same-requires-3 c = search rules
-
+-- EOF
 pub returns-then-is_same-3 : goal.returns-then-is_same-3
 unfolding bytes_of_text form_of
-returns-then-is_same-3 c = rw (← c.is_same.ensures, c.if-is_same.false, ← c.is_same-2.ensures, c.if-is_same-2.false, ← c.is_same-3.ensures, c.if-is_same-3.true)
+returns-then-is_same-3 c =
+    rw (← c.is_same.ensures, c.if-is_same.false, ← c.is_same-2.ensures, c.if-is_same-2.false, ← c.is_same-3.ensures, c.if-is_same-3.true)
 
-pub is_request-requires : goal.is_request-requires
-unfolding bytes_of_text form_of
-is_request-requires c = search rules
-
+-- a request
 pub returns-then-is_request : goal.returns-then-is_request
 unfolding bytes_of_text form_of
 returns-then-is_request c = rw (← c.is_same.ensures, c.if-is_same.false, ← c.is_same-2.ensures, c.if-is_same-2.false, ← c.is_same-3.ensures, c.if-is_same-3.false, ← c.is_request.ensures, c.if-is_request.true)
