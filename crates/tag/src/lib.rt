@@ -2,7 +2,6 @@
 // and the code above it share: the command table's types, and what is heard of a frame.
 #![tactic(auto)]
 
-
 // The work that a command asks for.
 #[derive(Clone, Copy)]
 pub enum Command {

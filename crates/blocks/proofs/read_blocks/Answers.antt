@@ -53,9 +53,9 @@ pub overflow_mul-result : goal.overflow_mul-result
 overflow_mul-result c =
     let fits : mir.Val.Fits mir.Syntax.w64 (c.size_shown-size.result * c.loop-n.n) = omega (arith, c.loop-n.invariant.within, c.loop-n.invariant.same, c.well_formed) in
     elim c.if-n-count.branch [
-      then-n-count w ↦ rw w.blocks-is fits
-    | else-n-count+then-block-limit w ↦ rw w.blocks-is fits
-    | else-n-count+else-block-limit+then-not-readable w ↦ rw w.blocks-is fits
+      | then-n-count w ↦ rw w.blocks-is fits
+      | else-n-count+then-block-limit w ↦ rw w.blocks-is fits
+      | else-n-count+else-block-limit+then-not-readable w ↦ rw w.blocks-is fits
     ]
 
 pub shape_of-out : goal.shape_of-out
@@ -66,8 +66,8 @@ pub returns : goal.returns
 returns c =
     let l = c.loop-n.invariant in
     elim c.if-n-count.branch [
-      then-n-count w ↦ rw w.blocks-is (all_read _ _ _ _ _ _ _ l w.if-n-count.true)
-    | else-n-count+then-block-limit w ↦ rw w.blocks-is (outside_read _ _ _ _ _ _ _ l w.if-block-limit.true)
-    | else-n-count+else-block-limit+then-not-readable w ↦
-        rw w.blocks-is (unreadable _ _ _ _ _ _ _ l (sym w.readable.ensures ∙ not-true _ w.if-not-readable.true-raw))
+      | then-n-count w ↦ rw w.blocks-is (all_read _ _ _ _ _ _ _ l w.if-n-count.true)
+      | else-n-count+then-block-limit w ↦ rw w.blocks-is (outside_read _ _ _ _ _ _ _ l w.if-block-limit.true)
+      | else-n-count+else-block-limit+then-not-readable w ↦
+          rw w.blocks-is (unreadable _ _ _ _ _ _ _ l (sym w.readable.ensures ∙ not-true _ w.if-not-readable.true-raw))
     ]

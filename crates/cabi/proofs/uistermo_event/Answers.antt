@@ -33,7 +33,7 @@ record_lent c = asked c.before ∙ not-false _ c.if3.false
 -- 1: the memory
 pub returns-then-not-is_memory : goal.returns-then-not-is_memory
 unfolding event_left
-returns-then-not-is_memory c = 
+returns-then-not-is_memory c =
     let at = c.args in
     event_by (event_stays 1 at.bytes.now at.memory.now at.room.now)
     (rw (← c.is_memory.ensures, c.if-not-is_memory.true-raw))
@@ -42,7 +42,7 @@ returns-then-not-is_memory c =
 -- 2: the room
 pub returns-then-room-lt10243 : goal.returns-then-room-lt10243
 unfolding event_left
-returns-then-room-lt10243 c = 
+returns-then-room-lt10243 c =
     let at = c.args in
     event_by (event_stays 2 at.bytes.now at.memory.now at.room.now)
     (rw (← c.is_memory.ensures, c.if-not-is_memory.false-raw, lt-ltb _ _ c.if-room-lt10243.true))
@@ -51,7 +51,7 @@ returns-then-room-lt10243 c =
 -- 3: the record
 pub returns-then-not-is_record : goal.returns-then-not-is_record
 unfolding event_left
-returns-then-not-is_record c = 
+returns-then-not-is_record c =
     let at = c.args in
     event_by (event_stays 3 at.bytes.now at.memory.now at.room.now)
     (rw (memory_lent c, le-ltb _ _ c.if-room-lt10243.false, asked c, c.if-not-is_record.true-raw))
@@ -60,7 +60,7 @@ returns-then-not-is_record c =
 -- none of these, and no event
 pub returns-then-kind-gt3 : goal.returns-then-kind-gt3
 unfolding event_left
-returns-then-kind-gt3 c = 
+returns-then-kind-gt3 c =
     let at = c.args in
     event_by (event_stays 0 at.bytes.now at.memory.now at.room.now)
     (rw (memory_lent c, le-ltb _ _ c.if-room-lt10243.false, record_lent c, lt-ltb _ _ c.if-kind-gt3.true))
@@ -68,19 +68,19 @@ returns-then-kind-gt3 c =
 
 -- what was tested is what `step` asks for
 pub step-s-requires : goal.step-s-requires
-step-s-requires c = 
+step-s-requires c =
     record { memory_value = kept c.is_memory.ensures c.if-not-is_memory.false-raw; in_bounds = c.if-room-lt10243.false }
 
 -- a frame: the whole record is written
 pub returns-then-kind-eq3 : goal.returns-then-kind-eq3
-returns-then-kind-eq3 c = 
+returns-then-kind-eq3 c =
     event_taken c.step-s.result (memory_lent c) c.if-room-lt10243.false (record_lent c)
     (le-ltb _ _ c.if-kind-gt3.false)
     (rw (← c.read_record.ensures, ← c.kind_in.ensures) c.step-s.ensures) c.write_record.ensures
 
 -- no frame: its passing parts
 pub returns-else-kind-eq3 : goal.returns-else-kind-eq3
-returns-else-kind-eq3 c = 
+returns-else-kind-eq3 c =
     passing_taken c.step-s.result (memory_lent c) c.if-room-lt10243.false
     (record_lent c) (le-ltb _ _ c.if-kind-gt3.false) c.if-kind-eq3.false
     (rw (← c.read_record.ensures, ← c.kind_in.ensures) c.step-s.ensures) c.write_passing.ensures

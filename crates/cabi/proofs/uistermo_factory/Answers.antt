@@ -17,7 +17,7 @@ use Rattle.cabi.proofs.uistermo_factory.Goals as goal
 -- 1: the memory
 pub returns-then-not-suits : goal.returns-then-not-suits
 unfolding factory_left factory_given
-returns-then-not-suits c = 
+returns-then-not-suits c =
     let at = c.args in
     fill_by (record { result = result_of 0 1 0; bytes = at.bytes.now; memory = at.memory.now })
     (rw (← c.is_memory-suits.ensures, c.if-not-suits.true-raw)) c.refused.ensures refl refl
@@ -25,7 +25,7 @@ returns-then-not-suits c =
 -- else the memory is filled, and the record is a factory tag's
 pub returns : goal.returns
 unfolding factory_left factory_given
-returns c = 
+returns c =
     let at = c.args in
     let m = at.memory.now in
     let lent = kept c.is_memory-suits.ensures c.if-not-suits.false-raw in

@@ -14,7 +14,7 @@ use Rattle.cabi.proofs.uistermo_load.Goals as goal
 -- 4: the image
 pub returns-then-not-is_image : goal.returns-then-not-is_image
 unfolding load_left load_given
-returns-then-not-is_image c = 
+returns-then-not-is_image c =
     let at = c.args in
     fill_by (record { result = result_of 0 4 0; bytes = at.bytes.now; memory = at.memory.now })
     (rw (← c.is_image.ensures, c.if-not-is_image.true-raw)) c.refused.ensures refl refl
@@ -22,7 +22,7 @@ returns-then-not-is_image c =
 -- 1: the memory
 pub returns-then-not-fits_image : goal.returns-then-not-fits_image
 unfolding load_left load_given
-returns-then-not-fits_image c = 
+returns-then-not-fits_image c =
     let at = c.args in
     fill_by (record { result = result_of 0 1 0; bytes = at.bytes.now; memory = at.memory.now })
     (rw (← c.is_image.ensures, c.if-not-is_image.false-raw, ← c.fits_image.ensures, c.if-not-fits_image.true-raw))
@@ -30,17 +30,17 @@ returns-then-not-fits_image c =
 
 -- an image of such a length has a header
 pub header_right-requires : goal.header_right-requires
-header_right-requires c = 
+header_right-requires c =
     has_header c.args.image.now (kept c.is_image.ensures c.if-not-is_image.false-raw)
 
 -- the same header
 pub header_fault-requires : goal.header_fault-requires
-header_fault-requires c = 
+header_fault-requires c =
     has_header c.args.image.now (kept c.is_image.ensures c.if-not-is_image.false-raw)
 
 -- 5a to 5e: the header
 pub returns-then-not-header_right : goal.returns-then-not-header_right
-returns-then-not-header_right c = 
+returns-then-not-header_right c =
     let at = c.args in
     let m = at.memory.now in
     let i = at.image.now in
@@ -56,13 +56,13 @@ returns-then-not-header_right c =
 
 -- the image has 64 bytes more than the memory
 pub load-requires : goal.load-requires
-load-requires c = 
+load-requires c =
     let at = c.args in
     (fitting at.memory.now at.image.now (kept c.fits_image.ensures c.if-not-fits_image.false-raw)).1
 
 -- none of these: its record is written
 pub returns : goal.returns
-returns c = 
+returns c =
     let at = c.args in
     let m = at.memory.now in
     let i = at.image.now in

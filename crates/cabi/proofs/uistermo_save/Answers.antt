@@ -14,13 +14,13 @@ use Rattle.cabi.proofs.uistermo_save.Goals as goal
 -- 4: the image
 pub returns-then-not-is_image : goal.returns-then-not-is_image
 unfolding save_left
-returns-then-not-is_image c =  save_by (save_stays 4 c.args.image.now)
+returns-then-not-is_image c = save_by (save_stays 4 c.args.image.now)
     (rw (← c.is_image.ensures, c.if-not-is_image.true-raw)) c.refused.ensures refl
 
 -- 1: the memory
 pub returns-then-not-fits_image : goal.returns-then-not-fits_image
 unfolding save_left
-returns-then-not-fits_image c = 
+returns-then-not-fits_image c =
     save_by (save_stays 1 c.args.image.now)
     (rw (
       ← c.is_image.ensures,
@@ -33,7 +33,7 @@ returns-then-not-fits_image c =
 -- 3: the record
 pub returns-then-not-is_record : goal.returns-then-not-is_record
 unfolding save_left
-returns-then-not-is_record c = 
+returns-then-not-is_record c =
     let at = c.args in
     let fit = kept c.fits_image.ensures c.if-not-fits_image.false-raw in
     let blocks = blocks_by_end at.memory.now (fitting at.memory.now at.image.now fit).0 in
@@ -52,13 +52,13 @@ returns-then-not-is_record c =
 
 -- the image has 64 bytes more than the memory
 pub save-requires : goal.save-requires
-save-requires c = 
+save-requires c =
     let at = c.args in
     (fitting at.memory.now at.image.now (kept c.fits_image.ensures c.if-not-fits_image.false-raw)).1
 
 -- the image is that of the record
 pub returns : goal.returns
-returns c = 
+returns c =
     let at = c.args in
     let sized = kept c.is_image.ensures c.if-not-is_image.false-raw in
     let fit = kept c.fits_image.ensures c.if-not-fits_image.false-raw in

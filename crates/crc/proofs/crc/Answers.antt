@@ -11,7 +11,7 @@ use Rattle.crc.proofs.crc.Goals as goal
 
 -- a turn takes the next byte: by the sixteen numbers, as the definition does
 pub loop-i-preserved : goal.loop-i-preserved
-loop-i-preserved c = 
+loop-i-preserved c =
     let s = c.args.s.now in
     let x = c.loop-i.c in
     let i = c.loop-i.i in

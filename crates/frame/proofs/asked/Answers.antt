@@ -21,35 +21,35 @@ returns-then-check7 c = rw (← c.check7.ensures, c.if-check7.true)
 
 -- the row is that of the code, and the fields begin within the frame
 pub check8-requires : goal.check8-requires
-check8-requires c = 
+check8-requires c =
     record { e_value = rw (c.entry_of-e.ensures, c.code_of.ensures); frame_bound = c.requires }
 
 -- the length is not the command's
 pub returns-then-check8 : goal.returns-then-check8
 unfolding asked_of
-returns-then-check8 c = 
+returns-then-check8 c =
     rw (← c.check7.ensures, c.if-check7.false, ← c.check8.ensures, c.if-check8.true)
 
 -- the row is that of the code
 pub check9-requires : goal.check9-requires
-check9-requires c = 
+check9-requires c =
     rw (c.entry_of-e.ensures, c.code_of.ensures)
 
 -- it has to be addressed and is not
 pub returns-then-check9 : goal.returns-then-check9
 unfolding asked_of
-returns-then-check9 c = 
+returns-then-check9 c =
     rw (← c.check7.ensures, c.if-check7.false, ← c.check8.ensures, c.if-check8.false, ← c.check9.ensures, c.if-check9.true)
 
 -- the row is that of the code
 pub check10-requires : goal.check10-requires
-check10-requires c = 
+check10-requires c =
     rw (c.entry_of-e.ensures, c.code_of.ensures)
 
 -- it takes no Option_flag
 pub returns-then-check10 : goal.returns-then-check10
 unfolding asked_of
-returns-then-check10 c = 
+returns-then-check10 c =
     rw (
       ← c.check7.ensures,
       c.if-check7.false,
@@ -70,7 +70,7 @@ fields_at-requires c = search proves
 -- all checks are passed: what is asked
 pub returns : goal.returns
 unfolding asked_of
-returns c = 
+returns c =
     rw (
       ← c.check7.ensures,
       c.if-check7.false,

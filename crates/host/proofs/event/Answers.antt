@@ -12,7 +12,7 @@ use Rattle.host.proofs.event.Goals as goal
 -- 1: the memory
 pub returns-then-not-lent : goal.returns-then-not-lent
 unfolding event_given
-returns-then-not-lent c = 
+returns-then-not-lent c =
     let at = c.args in
     event_by (event_refused 1 at.t at.memory.now at.room.now)
     (rw (← c.is_memory-lent.ensures, c.if-not-lent.true-raw))
@@ -21,7 +21,7 @@ returns-then-not-lent c =
 -- 2: the room
 pub returns-then-room-lt10243 : goal.returns-then-room-lt10243
 unfolding event_given
-returns-then-room-lt10243 c = 
+returns-then-room-lt10243 c =
     let at = c.args in
     event_by (event_refused 2 at.t at.memory.now at.room.now)
     (rw (← c.is_memory-lent.ensures, c.if-not-lent.false-raw, lt-ltb _ _ c.if-room-lt10243.true))
@@ -30,7 +30,7 @@ returns-then-room-lt10243 c =
 -- 3: the record
 pub returns-then-not-keeps : goal.returns-then-not-keeps
 unfolding event_given
-returns-then-not-keeps c = 
+returns-then-not-keeps c =
     let at = c.args in
     let lent = kept c.is_memory-lent.ensures c.if-not-lent.false-raw in
     event_by (event_refused 3 at.t at.memory.now at.room.now)
@@ -46,13 +46,13 @@ returns-then-not-keeps c =
 
 -- what the step asks for: a memory of such a size, and room for the longest answer
 pub step-said-requires : goal.step-said-requires
-step-said-requires c = 
+step-said-requires c =
     record { memory_value = kept c.is_memory-lent.ensures c.if-not-lent.false-raw; in_bounds = c.if-room-lt10243.false }
 
 -- none of these: the event happens
 pub returns : goal.returns
 unfolding event_given
-returns c = 
+returns c =
     let at = c.args in
     let lent = kept c.is_memory-lent.ensures c.if-not-lent.false-raw in
     event_by (event_done at.t (event_of at.kind at.frame.now) at.memory.now at.room.now)

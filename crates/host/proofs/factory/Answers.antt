@@ -13,7 +13,7 @@ use Rattle.host.proofs.factory.Goals as goal
 -- 1: the memory
 pub returns-then-not-suits : goal.returns-then-not-suits
 unfolding factory_given
-returns-then-not-suits c = 
+returns-then-not-suits c =
     let at = c.args in
     fills_by (load_refused 1 0 at.t at.memory.now) (rw (← c.is_memory-suits.ensures, c.if-not-suits.true-raw))
     (returns_by c.refuse.ensures) refl
@@ -21,7 +21,7 @@ returns-then-not-suits c =
 -- else the memory is filled, and the record is a factory tag's
 pub returns : goal.returns
 unfolding factory_given
-returns c = 
+returns c =
     let at = c.args in
     let m = at.memory.now in
     let lent = kept c.is_memory-suits.ensures c.if-not-suits.false-raw in

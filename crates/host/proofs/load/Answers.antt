@@ -13,20 +13,20 @@ use Rattle.host.proofs.load.Goals as goal
 -- 4: the image
 pub returns-then-not-whole : goal.returns-then-not-whole
 unfolding load_given
-returns-then-not-whole c = 
+returns-then-not-whole c =
     let at = c.args in
     fills_by (load_refused 4 0 at.t at.memory.now) (rw (← c.is_image-whole.ensures, c.if-not-whole.true-raw))
     (returns_by c.refuse.ensures) refl
 
 -- an image of such a length has a header
 pub header_right-headed-requires : goal.header_right-headed-requires
-header_right-headed-requires c =  has_header c.args.image.now
+header_right-headed-requires c = has_header c.args.image.now
     (kept c.is_image-whole.ensures c.if-not-whole.false-raw)
 
 -- 1: the memory
 pub returns-then-not-fits : goal.returns-then-not-fits
 unfolding load_given
-returns-then-not-fits c = 
+returns-then-not-fits c =
     let at = c.args in
     fills_by (load_refused 1 0 at.t at.memory.now)
     (rw (← c.is_image-whole.ensures, c.if-not-whole.false-raw, ← c.fits_image-fits.ensures, c.if-not-fits.true-raw))
@@ -34,13 +34,13 @@ returns-then-not-fits c =
 
 -- the same header
 pub header_fault-requires : goal.header_fault-requires
-header_fault-requires c = 
+header_fault-requires c =
     has_header c.args.image.now (kept c.is_image-whole.ensures c.if-not-whole.false-raw)
 
 -- 5a to 5e: the header
 pub returns-then-not-headed : goal.returns-then-not-headed
 unfolding load_given
-returns-then-not-headed c = 
+returns-then-not-headed c =
     let at = c.args in
     let m = at.memory.now in
     let i = at.image.now in
@@ -61,14 +61,14 @@ returns-then-not-headed c =
 
 -- the image has 64 bytes more than the memory
 pub load-tag-requires : goal.load-tag-requires
-load-tag-requires c = 
+load-tag-requires c =
     let at = c.args in
     (fitting at.memory.now at.image.now (kept c.fits_image-fits.ensures c.if-not-fits.false-raw)).1
 
 -- none of these: the image is loaded
 pub returns : goal.returns
 unfolding load_given
-returns c = 
+returns c =
     let at = c.args in
     let m = at.memory.now in
     let i = at.image.now in

@@ -14,7 +14,7 @@ use Rattle.host.proofs.save.Goals as goal
 -- 4: the image
 pub returns-then-not-sized : goal.returns-then-not-sized
 unfolding save_given
-returns-then-not-sized c = 
+returns-then-not-sized c =
     let at = c.args in
     save_by (save_refused 4 at.t at.image.now)
     (rw (← c.is_image-sized.ensures, c.if-not-sized.true-raw))
@@ -23,7 +23,7 @@ returns-then-not-sized c =
 -- 1: the memory
 pub returns-then-not-fitting : goal.returns-then-not-fitting
 unfolding save_given
-returns-then-not-fitting c = 
+returns-then-not-fitting c =
     let at = c.args in
     save_by (save_refused 1 at.t at.image.now)
     (rw (
@@ -36,7 +36,7 @@ returns-then-not-fitting c =
 -- 3: the record
 pub returns-then-not-right : goal.returns-then-not-right
 unfolding save_given
-returns-then-not-right c = 
+returns-then-not-right c =
     let at = c.args in
     let fits = kept c.fits_image-fitting.ensures c.if-not-fitting.false-raw in
     save_by (save_refused 3 at.t at.image.now)
@@ -52,14 +52,14 @@ returns-then-not-right c =
 
 -- the image has 64 bytes more than the memory
 pub save-length-requires : goal.save-length-requires
-save-length-requires c = 
+save-length-requires c =
     let at = c.args in
     (fitting at.memory.now at.image.now (kept c.fits_image-fitting.ensures c.if-not-fitting.false-raw)).1
 
 -- none of these: the tag is saved
 pub returns : goal.returns
 unfolding save_given
-returns c = 
+returns c =
     let at = c.args in
     let fits = kept c.fits_image-fitting.ensures c.if-not-fitting.false-raw in
     let saved = c.save-length.ensures in

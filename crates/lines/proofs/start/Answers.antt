@@ -10,7 +10,7 @@ use Rattle.lines.proofs.start.Goals as goal
 -- what `host::factory` gives for that memory
 pub returns : goal.returns
 unfolding started factory_given
-returns c = 
+returns c =
     let size : length c.args.memory.now ≡ 2048 = search rules in
     let made = c.factory-o.ensures in
     (rw (made.tag, size), rw size at made.memory)

@@ -12,13 +12,13 @@ returns-then-not-lasting_right c = rw (record_in_parts, broken c.lasting_right.e
 
 -- a register or an area's end
 pub returns-then-not-possible_areas : goal.returns-then-not-possible_areas
-returns-then-not-possible_areas c = 
+returns-then-not-possible_areas c =
     let areas = rw c.read_areas.ensures at c.possible_areas.ensures in
     rw (record_in_parts, last_end_lem, kept c.lasting_right.ensures c.if-not-lasting_right.false-raw, broken areas c.if-not-possible_areas.true-raw)
 
 -- both are kept, and the passing parts decide
 pub returns : goal.returns
-returns c = 
+returns c =
     let areas = rw c.read_areas.ensures at c.possible_areas.ensures in
     rw (record_in_parts, last_end_lem, kept c.lasting_right.ensures c.if-not-lasting_right.false-raw, kept areas c.if-not-possible_areas.false-raw)
     c.passing_right.ensures

@@ -14,7 +14,7 @@ returns-then-byte_of-eq1 c = rw (← c.byte_of.ensures, c.if-byte_of-eq1.true)
 -- it is off: Ready, and nothing is set
 pub returns : goal.returns
 unfolding off_rule
-returns c = 
+returns c =
     let field = c.byte_of in
     let off = ne_eqb _ _ c.if-byte_of-eq1.false in
     rw (

@@ -14,12 +14,12 @@ returns-then-not-round_right c = rw (kept c.values_right.ensures c.if-not-values
 
 -- the held answer breaks its own
 pub returns-then-not-held_right : goal.returns-then-not-held_right
-returns-then-not-held_right c = 
+returns-then-not-held_right c =
     rw (kept c.values_right.ensures c.if-not-values_right.false-raw, kept c.round_right.ensures c.if-not-round_right.false-raw, broken c.held_right.ensures c.if-not-held_right.true-raw)
 
 -- round, held answer and state do not go together
 pub returns-then-not-together_right : goal.returns-then-not-together_right
-returns-then-not-together_right c = 
+returns-then-not-together_right c =
     rw (
       kept c.values_right.ensures c.if-not-values_right.false-raw,
       kept c.round_right.ensures c.if-not-round_right.false-raw,
@@ -29,7 +29,7 @@ returns-then-not-together_right c =
 
 -- all these are kept, and the rule of a field that is off decides
 pub returns : goal.returns
-returns c = 
+returns c =
     rw (
       kept c.values_right.ensures c.if-not-values_right.false-raw,
       kept c.round_right.ensures c.if-not-round_right.false-raw,

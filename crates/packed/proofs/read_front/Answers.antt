@@ -5,7 +5,7 @@ use Rattle.packed.proofs.read_front.Goals as goal
 
 -- the passing parts from their places; the lasting ones are those of the header
 pub returns : goal.returns
-returns c = 
+returns c =
     rw (
       c.state_in-state.ensures,
       c.round_in-round.ensures,

@@ -10,7 +10,7 @@ use Rattle.packed.proofs.write_passing.Goals as goal
 
 -- the eight bytes are the last ones, and what was lent are bytes
 pub returns : goal.returns
-returns c = 
+returns c =
     let t = c.args.t in
     let r = c.args.bytes.now in
     let is = passing_put t r c.passing-after.ensures c.copy.ensures c.requires in

@@ -6,5 +6,5 @@ use Rattle.packed.proofs.write_record.Goals as goal
 
 -- the header, and the passing parts after it
 pub returns : goal.returns
-returns c = 
+returns c =
     record_put c.args.size c.args.t c.write_header.ensures c.write_passing.ensures.is

@@ -28,11 +28,14 @@ slice_bounds-copy_part-count-in-loop-i c = c.loop-i.invariant.0.within
 
 -- a part has 512 bytes, and there is room for it
 pub copy_part-requires : goal.copy_part-requires
-copy_part-requires c = 
+copy_part-requires c =
     let at = c.loop-i in
     let src = c.args.src.now in
-    let size : at.i + 512 - at.i ≡ 512 = omega arith in record { src_len = rw size (length-take-le 512 (drop at.i src) (simp length-drop (omega arith))); in_bounds = tail_room at.out at.i 512
-          (omega (arith, at.invariant.0.same, at.invariant.0.fits)) }
+    let size : at.i + 512 - at.i ≡ 512 = omega arith in record {
+      src_len = rw size (length-take-le 512 (drop at.i src) (simp length-drop (omega arith)));
+      in_bounds = tail_room at.out at.i 512
+          (omega (arith, at.invariant.0.same, at.invariant.0.fits));
+    }
 
 -- what is left of src is less
 pub loop-i-smaller : goal.loop-i-smaller
@@ -40,7 +43,7 @@ loop-i-smaller c = omega arith
 
 -- the part is written after what was
 pub loop-i-preserved : goal.loop-i-preserved
-loop-i-preserved c = 
+loop-i-preserved c =
     let at = c.loop-i in
     let size : at.i + 512 - at.i ≡ 512 = omega arith in
     (put_part 512 at.invariant.0 (rw size) (omega arith) c.copy_part.ensures, omega arith)
@@ -63,6 +66,6 @@ shape_of-out c = (more (left c.loop-i.invariant.0) c.copy.ensures).same
 
 -- with what was left, all is written
 pub returns : goal.returns
-returns c = 
+returns c =
     let all = put_left c.loop-i.invariant.0 c.copy.ensures in
     record { count = refl; is = all.is }

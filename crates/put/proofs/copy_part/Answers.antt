@@ -31,7 +31,7 @@ copy-requires c = part_room 16 c.loop-j.invariant (rw tail at c.sixteen-a.ensure
 
 -- they are written after what was
 pub loop-j-preserved : goal.loop-j-preserved
-loop-j-preserved c = 
+loop-j-preserved c =
     let at = c.loop-j in
     let read = rw tail at c.sixteen-a.ensures in
     let next : 16 * (at.j + 1) ≡ 16 * at.j + 16 = omega arith in

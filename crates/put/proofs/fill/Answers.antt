@@ -17,7 +17,7 @@ loop-i-init c = none (simp length-replicate (omega arith))
 
 -- one byte more
 pub loop-i-preserved : goal.loop-i-preserved
-loop-i-preserved c = 
+loop-i-preserved c =
     let out = c.args.out.now in
     let at = c.loop-i in
     let h : at.i < length out = omega (arith, c.loop-i-test.true, at.invariant.same) in
@@ -29,6 +29,6 @@ shape_of-out c = c.loop-i.invariant.same
 
 -- none is left
 pub returns : goal.returns
-returns c = 
+returns c =
     let w = c.loop-i.invariant in
     put_all (last (simp length-replicate (omega (arith, c.loop-i-test.false, w.same))) w) (sym (length-replicate _ _))

@@ -8,7 +8,7 @@ use Rattle.step.proofs.step.Goals as goal
 
 -- the longest answer has room
 pub seal-requires : goal.seal-requires
-seal-requires c = 
+seal-requires c =
     let t = c.args.t in
     let m = c.args.memory.now in
     let e = event_of c.args.kind c.args.frame.now in
@@ -16,7 +16,7 @@ seal-requires c =
 
 -- the CRC follows, or silence stays silence
 pub returns : goal.returns
-returns c = 
+returns c =
     let t = c.args.t in
     let m = c.args.memory.now in
     let e = event_of c.args.kind c.args.frame.now in

@@ -13,12 +13,12 @@ loop-i-init c = refl
 
 -- this one comes again
 pub returns-then-is_in : goal.returns-then-is_in
-returns-then-is_in c = 
+returns-then-is_in c =
     sym (equal_here _ _ c.loop-i-test.true (sym c.is_in.ensures ∙ c.if-is_in.true)) ∙ c.loop-i.invariant
 
 -- it does not: a later one, if any
 pub loop-i-preserved : goal.loop-i-preserved
-loop-i-preserved c = 
+loop-i-preserved c =
     sym (equal_later _ _ c.loop-i-test.true (sym c.is_in.ensures ∙ c.if-is_in.false)) ∙ c.loop-i.invariant
 
 -- none does

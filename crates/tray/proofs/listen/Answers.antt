@@ -19,7 +19,7 @@ one_more-tally-requires c = omega (arith, c.next_four.ensures)
 
 -- one more has heard the request: it answers in its slot, or is silent
 pub loop-i-preserved : goal.loop-i-preserved
-loop-i-preserved c = 
+loop-i-preserved c =
     let here = c.loop-i-test.true in
     let before = c.loop-i.invariant in
     ⊎_elim (λ w. rw w.3 (answers_next before here (sym c.low_bits.ensures ∙ w.0.taken) (rw w.1.ensures at w.2.ensures)))

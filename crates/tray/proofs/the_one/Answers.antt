@@ -16,14 +16,14 @@ loop-i-init c = refl
 -- here is the first
 pub returns-then-low_bits-mask : goal.returns-then-low_bits-mask
 unfolding fits
-returns-then-low_bits-mask c = 
+returns-then-low_bits-mask c =
     let here = c.loop-i-test.true in
     rw (← c.loop-i.invariant, those_here _ _ (fits _ _) here (eq-eqb _ _ (sym c.low_bits.ensures ∙ c.if-low_bits-mask.true)))
 
 -- not here: later, if at all
 pub loop-i-preserved : goal.loop-i-preserved
 unfolding fits
-loop-i-preserved c = 
+loop-i-preserved c =
     let here = c.loop-i-test.true in
     those_later _ _ (fits _ _) here (ne_eqb _ _ (λ e. c.if-low_bits-mask.false (c.low_bits.ensures ∙ e))) ∙ c.loop-i.invariant
 

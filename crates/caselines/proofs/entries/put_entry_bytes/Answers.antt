@@ -25,12 +25,12 @@ put_number-at-requires c = eight_room _ _ c.loop-i.invariant.1 c.loop-i-test.tru
 
 -- their end lies within out
 pub overflow_add-at : goal.overflow_add-at
-overflow_add-at c = 
+overflow_add-at c =
     omega (arith, eight_sum _ _ c.loop-i.invariant.1 c.loop-i-test.true c.put_number-at.ensures)
 
 -- and they are the next of the list's
 pub loop-i-preserved : goal.loop-i-preserved
-loop-i-preserved c = 
+loop-i-preserved c =
     (omega arith, more (eight _ _ c.loop-i.invariant.1 c.loop-i-test.true) c.put_number-at.ensures)
 
 pub shape_of-out : goal.shape_of-out

@@ -25,7 +25,7 @@ placed_form-requires c = (at_most _ _ c.number_in-number.ensures c.in-Of.is, sea
 -- a place, and what follows it
 pub returns-in-Of : goal.returns-in-Of
 unfolding bytes_form
-returns-in-Of c = 
+returns-in-Of c =
     rw (
       ← c.space_in-k.ensures,
       lt-leb _ _ c.if-s-k.false,
@@ -38,5 +38,5 @@ returns-in-Of c =
 -- no number
 pub returns-in-NoNumber : goal.returns-in-NoNumber
 unfolding bytes_form
-returns-in-NoNumber c = 
+returns-in-NoNumber c =
     rw (← c.space_in-k.ensures, lt-leb _ _ c.if-s-k.false, ← c.number_in-number.ensures, c.in-NoNumber.is)

@@ -10,13 +10,13 @@ use Rattle.caselines.proofs.form.number_form.Goals as goal
 -- `MEM n`
 pub after-requires : goal.after-requires
 unfolding bytes_of_text number_form
-after-requires c = 
+after-requires c =
     (rw c.after.ensures at c.memory_form.ensures) ∙ sym (here _ _ c.begins_with.ensures c.if-begins_with.true)
 
 -- `ROOM n`
 pub room_form-requires : goal.room_form-requires
 unfolding bytes_of_text number_form
-room_form-requires c = 
+room_form-requires c =
     (rw c.after-then-begins_with-2.ensures at c.room_form.ensures) ∙
     sym
     (past _ _ c.begins_with.ensures c.if-begins_with.false
@@ -25,7 +25,7 @@ room_form-requires c =
 -- `SAVE n`
 pub returns-then-begins_with-3 : goal.returns-then-begins_with-3
 unfolding bytes_of_text number_form
-returns-then-begins_with-3 c = 
+returns-then-begins_with-3 c =
     (rw c.after-then-begins_with-3.ensures at c.save_form.ensures) ∙
     sym
     (past _ _ c.begins_with.ensures c.if-begins_with.false
@@ -35,7 +35,7 @@ returns-then-begins_with-3 c =
 -- any other line
 pub returns : goal.returns
 unfolding bytes_of_text number_form
-returns c = 
+returns c =
     c.hex_form.ensures ∙
     sym
     (past _ _ c.begins_with.ensures c.if-begins_with.false

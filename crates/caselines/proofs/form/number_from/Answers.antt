@@ -17,7 +17,7 @@ loop-i-init c = (omega arith, refl)
 
 -- no figure
 pub returns-then-not-is_figure : goal.returns-then-not-is_figure
-returns-then-not-is_figure c = 
+returns-then-not-is_figure c =
     let e = sym c.is_figure.ensures ∙ not-true _ c.if-not-is_figure.true-raw in
     sym (no_figure _ _ _ _ c.loop-i-test.true e) ∙ c.loop-i.invariant.1
 
@@ -27,31 +27,31 @@ overflow_mul-n c = omega arith
 
 -- a figure is 0 to 9
 pub overflow_sub-n : goal.overflow_sub-n
-overflow_sub-n c = 
+overflow_sub-n c =
     let e = sym c.is_figure.ensures ∙ not-false _ c.if-not-is_figure.false-raw in
     omega (arith, (figure_range (get_or c.args.s.now c.loop-i.i 0) e).0)
 
 -- and so a small number
 pub overflow_cast-n : goal.overflow_cast-n
-overflow_cast-n c = 
+overflow_cast-n c =
     let e = sym c.is_figure.ensures ∙ not-false _ c.if-not-is_figure.false-raw in
     omega (arith, (figure_range (get_or c.args.s.now c.loop-i.i 0) e).1)
 
 -- the number with it does not wrap
 pub overflow_add-n : goal.overflow_add-n
-overflow_add-n c = 
+overflow_add-n c =
     let e = sym c.is_figure.ensures ∙ not-false _ c.if-not-is_figure.false-raw in
     omega (arith, (figure_range (get_or c.args.s.now c.loop-i.i 0) e).1)
 
 -- past the range
 pub returns-then-most-n : goal.returns-then-most-n
-returns-then-most-n c = 
+returns-then-most-n c =
     let e = sym c.is_figure.ensures ∙ not-false _ c.if-not-is_figure.false-raw in
     sym (too_great _ _ _ _ c.loop-i-test.true e c.if-most-n.true) ∙ c.loop-i.invariant.1
 
 -- one figure more
 pub loop-i-preserved : goal.loop-i-preserved
-loop-i-preserved c = 
+loop-i-preserved c =
     let e = sym c.is_figure.ensures ∙ not-false _ c.if-not-is_figure.false-raw in
     (omega arith, sym (one_figure _ _ _ _ c.loop-i-test.true e c.if-most-n.false) ∙ c.loop-i.invariant.1)
 

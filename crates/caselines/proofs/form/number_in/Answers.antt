@@ -20,5 +20,5 @@ returns-then-s c = sym (if_false _ _ (ne_eqb _ 0 c.if-s-eq0.false) ∙ if_true _
 -- figures
 pub returns : goal.returns
 unfolding number_in
-returns c = 
+returns c =
     c.number_from.ensures ∙ sym (if_false _ _ (ne_eqb _ 0 c.if-s-eq0.false) ∙ if_false _ _ c.if-s.false)

@@ -20,7 +20,7 @@ slice_bounds-number_in-end c = sym (length-take-le _ _ (le_of_lt c.if-s-k.false)
 -- a number of entries, and what follows it
 pub returns-in-Of : goal.returns-in-Of
 unfolding search_form
-returns-in-Of c = 
+returns-in-Of c =
     rw (
       ← c.space_in-k.ensures,
       lt-leb _ _ c.if-s-k.false,
@@ -33,5 +33,5 @@ returns-in-Of c =
 -- no number
 pub returns-in-NoNumber : goal.returns-in-NoNumber
 unfolding search_form
-returns-in-NoNumber c = 
+returns-in-NoNumber c =
     rw (← c.space_in-k.ensures, lt-leb _ _ c.if-s-k.false, ← c.number_in-number.ensures, c.in-NoNumber.is)

@@ -10,7 +10,7 @@ use Rattle.caselines.proofs.row.crc_entries.Goals as goal
 
 -- the bytes have room in their buffer
 pub put_entry_bytes-n-requires : goal.put_entry_bytes-n-requires
-put_entry_bytes-n-requires c = 
+put_entry_bytes-n-requires c =
     omega (arith, entry_bytes_length c.args.list.now, c.requires)
 
 -- so many bytes of the buffer are theirs

@@ -13,7 +13,7 @@ slice_bounds-put_row-end c = sym (part_length _ _ c.least-n.ensures)
 
 -- the line of such a part has room in out
 pub put_row-requires : goal.put_row-requires
-put_row-requires c = 
+put_row-requires c =
     le_trans (row_most_lem _ _ _ _ _ (part_most _ _ c.least-n.ensures c.requires.of_room) (search rules)) c.requires.of_out
 
 -- the part is as long as the result says

@@ -8,12 +8,12 @@ use Rattle.caselines.proofs.row.put_column.Goals as goal
 
 -- a number without a place has room
 pub put_number-requires : goal.put_number-requires
-put_number-requires c = 
+put_number-requires c =
     rw (column_plain _ _ (broken c.is_lettered.ensures c.if-not-is_lettered.true-raw)) at c.requires
 
 -- and is the text
 pub returns-then-not-is_lettered : goal.returns-then-not-is_lettered
-returns-then-not-is_lettered c = 
+returns-then-not-is_lettered c =
     rw (column_plain _ _ (broken c.is_lettered.ensures c.if-not-is_lettered.true-raw)) c.put_number.ensures
 
 -- 5Ah is no more than such a number
@@ -30,10 +30,10 @@ overflow_add-number c = omega (arith, (letter_range c.args.number (kept c.is_let
 
 -- a fault has room
 pub put_fault-requires : goal.put_fault-requires
-put_fault-requires c = 
+put_fault-requires c =
     rw (column_fault _ _ (kept c.is_lettered.ensures c.if-not-is_lettered.false-raw)) at c.requires
 
 -- and is the text
 pub returns : goal.returns
-returns c = 
+returns c =
     rw (column_fault _ _ (kept c.is_lettered.ensures c.if-not-is_lettered.false-raw)) c.put_fault.ensures

@@ -6,5 +6,5 @@ use Rattle.caselines.proofs.row.put_fault.Goals as goal
 
 -- both are the text
 pub returns : goal.returns
-returns c = 
+returns c =
     both_put _ c.copy-at.ensures c.requires c.put_number.ensures

@@ -10,7 +10,7 @@ use Rattle.caselines.proofs.row.put_found.Goals as goal
 
 -- the bytes have room in their buffer
 pub put_entry_bytes-n-requires : goal.put_entry_bytes-n-requires
-put_entry_bytes-n-requires c = 
+put_entry_bytes-n-requires c =
     omega (arith, entry_bytes_length c.args.found.now, c.requires.found_len_bound)
 
 -- so many bytes of the buffer are theirs
@@ -23,7 +23,7 @@ slice_bounds-put_field-end c = sym (length-take-le _ _ (put_within c.put_entry_b
 
 -- their digits have room
 pub put_field-requires : goal.put_field-requires
-put_field-requires c = 
+put_field-requires c =
     rw (put_there c.put_entry_bytes-n.ensures) c.requires.found_in_bounds
 
 -- and are those of the UIDs

@@ -11,7 +11,7 @@ use Rattle.caselines.proofs.row.put_list.Goals as goal
 -- the first piece has room
 pub put_found-at-requires : goal.put_found-at-requires
 unfolding pair_text
-put_found-at-requires c = 
+put_found-at-requires c =
     let sum = field 0x0A (shown (crc_high (entry_bytes c.args.list.now))) in
     record { found_len_bound = c.requires.suits_lists.of_found; found_in_bounds = first_room (field 0x20 (shown (entry_bytes c.args.found.now))) sum c.requires.list_in_bounds }
 
@@ -26,14 +26,14 @@ slice_bounds-put_field-start c = put_within c.put_found-at.ensures
 -- and has room for the second
 pub put_field-requires : goal.put_field-requires
 unfolding pair_text
-put_field-requires c = 
+put_field-requires c =
     rw c.crc_entries-sum.ensures
     (second_room (field 0x0A (shown (crc_high (entry_bytes c.args.list.now)))) c.put_found-at.ensures c.requires.list_in_bounds)
 
 -- both lie within out
 pub overflow_add-result : goal.overflow_add-result
 unfolding pair_text
-overflow_add-result c = 
+overflow_add-result c =
     omega (
       arith,
       both_within _ c.put_found-at.ensures c.requires.list_in_bounds
@@ -43,6 +43,6 @@ overflow_add-result c =
 -- and are the text
 pub returns : goal.returns
 unfolding pair_text
-returns c = 
+returns c =
     both_put _ c.put_found-at.ensures c.requires.list_in_bounds
     (rw c.crc_entries-sum.ensures at c.put_field.ensures)

@@ -10,7 +10,7 @@ use Rattle.caselines.proofs.row.put_number.Goals as goal
 
 -- the number has room
 pub put_decimal-at-requires : goal.put_decimal-at-requires
-put_decimal-at-requires c = 
+put_decimal-at-requires c =
     first_room (decimal_of c.args.n) (0x20 ∷ []) c.requires
 
 -- and so has the space

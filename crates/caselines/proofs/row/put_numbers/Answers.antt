@@ -12,7 +12,7 @@ use Rattle.caselines.proofs.row.put_numbers.Goals as goal
 -- the column has room
 pub put_column-at-requires : goal.put_column-at-requires
 unfolding numbers_text
-put_column-at-requires c = 
+put_column-at-requires c =
     let result = c.args.res in
     rw c.refusal_in.ensures
     (first_room (field 0x20 (column_text (refusal_in result) (place_in result))) (field 0x20 (decimal_of (length_in result))) c.requires)
@@ -28,14 +28,14 @@ slice_bounds-put_number-start c = put_within c.put_column-at.ensures
 -- and has room for the length
 pub put_number-requires : goal.put_number-requires
 unfolding numbers_text
-put_number-requires c = 
+put_number-requires c =
     second_room (field 0x20 (decimal_of (length_in c.args.res)))
     (rw c.refusal_in.ensures at c.put_column-at.ensures) c.requires
 
 -- both lie within out
 pub overflow_add-result : goal.overflow_add-result
 unfolding numbers_text
-overflow_add-result c = 
+overflow_add-result c =
     omega (
       arith,
       both_within _ (rw c.refusal_in.ensures at c.put_column-at.ensures) c.requires c.put_number.ensures,
@@ -44,5 +44,5 @@ overflow_add-result c =
 -- and are the text
 pub returns : goal.returns
 unfolding numbers_text
-returns c = 
+returns c =
     both_put _ (rw c.refusal_in.ensures at c.put_column-at.ensures) c.requires c.put_number.ensures

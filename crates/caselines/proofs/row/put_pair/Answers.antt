@@ -10,7 +10,7 @@ use Rattle.caselines.proofs.row.put_pair.Goals as goal
 -- the first piece has room
 pub put_field-at-requires : goal.put_field-at-requires
 unfolding pair_text
-put_field-at-requires c = 
+put_field-at-requires c =
     first_room (field 0x20 (shown c.args.a.now)) (field c.args.end (shown c.args.b.now)) c.requires
 
 -- what it leaves begins within out
@@ -24,17 +24,17 @@ slice_bounds-put_field-start c = put_within c.put_field-at.ensures
 -- and has room for the second
 pub put_field-requires : goal.put_field-requires
 unfolding pair_text
-put_field-requires c = 
+put_field-requires c =
     second_room (field c.args.end (shown c.args.b.now)) c.put_field-at.ensures c.requires
 
 -- both lie within out
 pub overflow_add-result : goal.overflow_add-result
 unfolding pair_text
-overflow_add-result c = 
+overflow_add-result c =
     omega (arith, both_within _ c.put_field-at.ensures c.requires c.put_field.ensures)
 
 -- and are the text
 pub returns : goal.returns
 unfolding pair_text
-returns c = 
+returns c =
     both_put _ c.put_field-at.ensures c.requires c.put_field.ensures

@@ -9,7 +9,7 @@ use Rattle.caselines.proofs.row.put_rest.Goals as goal
 
 -- the first piece has room
 pub put_pair-at-requires : goal.put_pair-at-requires
-put_pair-at-requires c = 
+put_pair-at-requires c =
     first_room (pair_text 0x20 c.args.answer.now c.args.tag.now) (sums_text c.args.memory.now c.args.room.now) c.requires
 
 -- what it leaves begins within out
@@ -22,15 +22,15 @@ slice_bounds-put_sums-start c = put_within c.put_pair-at.ensures
 
 -- and has room for the second
 pub put_sums-requires : goal.put_sums-requires
-put_sums-requires c = 
+put_sums-requires c =
     second_room (sums_text c.args.memory.now c.args.room.now) c.put_pair-at.ensures c.requires
 
 -- both lie within out
 pub overflow_add-result : goal.overflow_add-result
-overflow_add-result c = 
+overflow_add-result c =
     omega (arith, both_within _ c.put_pair-at.ensures c.requires c.put_sums.ensures)
 
 -- and are the text
 pub returns : goal.returns
-returns c = 
+returns c =
     both_put _ c.put_pair-at.ensures c.requires c.put_sums.ensures

@@ -10,7 +10,7 @@ use Rattle.caselines.proofs.row.put_row.Goals as goal
 -- the first piece has room
 pub put_numbers-at-requires : goal.put_numbers-at-requires
 unfolding row_text
-put_numbers-at-requires c = 
+put_numbers-at-requires c =
     let rest = rest_text c.args.answer.now c.args.tag.now c.args.memory.now c.args.room.now in
     first_room (numbers_text c.args.res) rest c.requires
 
@@ -25,18 +25,18 @@ slice_bounds-put_rest-start c = put_within c.put_numbers-at.ensures
 -- and has room for the second
 pub put_rest-requires : goal.put_rest-requires
 unfolding row_text
-put_rest-requires c = 
+put_rest-requires c =
     let rest = rest_text c.args.answer.now c.args.tag.now c.args.memory.now c.args.room.now in
     second_room rest c.put_numbers-at.ensures c.requires
 
 -- both lie within out
 pub overflow_add-result : goal.overflow_add-result
 unfolding row_text
-overflow_add-result c = 
+overflow_add-result c =
     omega (arith, both_within _ c.put_numbers-at.ensures c.requires c.put_rest.ensures)
 
 -- and are the text
 pub returns : goal.returns
 unfolding row_text
-returns c = 
+returns c =
     both_put _ c.put_numbers-at.ensures c.requires c.put_rest.ensures

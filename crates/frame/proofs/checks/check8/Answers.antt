@@ -28,7 +28,7 @@ right_length-requires c = search proves
 -- the length of the fields, beside that of the row
 pub returns : goal.returns
 unfolding check8
-returns c = 
+returns c =
     rw (
       c.right_length.ensures,
       c.requires.e_value,

@@ -7,5 +7,5 @@ use Rattle.image.proofs.reading.read_keys.Goals as goal
 -- each password from its place
 pub returns : goal.returns
 unfolding tag_in
-returns c = 
+returns c =
     rw (c.eight_of.ensures, c.eight_of-2.ensures, c.eight_of-3.ensures, c.eight_of-4.ensures)

@@ -21,7 +21,7 @@ from_12 e i mark right locks free read = in_order e i (sym (kept mark right)) (s
 -- byte 0
 pub returns-then-not-mark_right : goal.returns-then-not-mark_right
 unfolding first_fault
-returns-then-not-mark_right c = 
+returns-then-not-mark_right c =
     let at = c.args in
     rw (in_order at.e at.image.now c.mark_right.ensures refl c.read_areas-a.ensures)
     (search (proves, c.if-not-mark_right.true-raw))
@@ -29,7 +29,7 @@ returns-then-not-mark_right c =
 -- byte 11
 pub returns-then-not-locks_right : goal.returns-then-not-locks_right
 unfolding first_fault
-returns-then-not-locks_right c = 
+returns-then-not-locks_right c =
     let at = c.args in
     let read = c.read_areas-a.ensures in
     rw (in_order at.e at.image.now c.mark_right.ensures c.locks_right.ensures read)
@@ -53,7 +53,7 @@ returns-then-a-gt15-2 c = rw (from_12 c.args.e c.args.image.now c.mark_right.ens
 -- byte 15, an end above E or the later of a wrong pair
 pub returns-then-not-end_rules : goal.returns-then-not-end_rules
 unfolding first_fault
-returns-then-not-end_rules c = 
+returns-then-not-end_rules c =
     rw (
       from_12 c.args.e c.args.image.now c.mark_right.ensures c.if-not-mark_right.false-raw c.locks_right.ensures c.if-not-locks_right.false-raw c.read_areas-a.ensures,
       broken c.end_rules.ensures c.if-not-end_rules.true-raw,
@@ -63,7 +63,7 @@ returns-then-not-end_rules c =
 -- byte 16
 pub returns-then-a-gt15-3 : goal.returns-then-a-gt15-3
 unfolding first_fault
-returns-then-a-gt15-3 c = 
+returns-then-a-gt15-3 c =
     rw (
       from_12 c.args.e c.args.image.now c.mark_right.ensures c.if-not-mark_right.false-raw c.locks_right.ensures c.if-not-locks_right.false-raw c.read_areas-a.ensures,
       kept c.end_rules.ensures c.if-not-end_rules.false-raw,
@@ -73,7 +73,7 @@ returns-then-a-gt15-3 c =
 -- byte 17, as byte 15
 pub returns-then-not-end_rules-2 : goal.returns-then-not-end_rules-2
 unfolding first_fault
-returns-then-not-end_rules-2 c = 
+returns-then-not-end_rules-2 c =
     rw (
       from_12 c.args.e c.args.image.now c.mark_right.ensures c.if-not-mark_right.false-raw c.locks_right.ensures c.if-not-locks_right.false-raw c.read_areas-a.ensures,
       kept c.end_rules.ensures c.if-not-end_rules.false-raw,
@@ -84,7 +84,7 @@ returns-then-not-end_rules-2 c =
 -- byte 18
 pub returns-then-a-gt15-4 : goal.returns-then-a-gt15-4
 unfolding first_fault
-returns-then-a-gt15-4 c = 
+returns-then-a-gt15-4 c =
     rw (
       from_12 c.args.e c.args.image.now c.mark_right.ensures c.if-not-mark_right.false-raw c.locks_right.ensures c.if-not-locks_right.false-raw c.read_areas-a.ensures,
       kept c.end_rules.ensures c.if-not-end_rules.false-raw,
@@ -94,7 +94,7 @@ returns-then-a-gt15-4 c =
 
 -- none of these: what the reserved bytes give
 pub returns : goal.returns
-returns c = 
+returns c =
     rw (
       from_12 c.args.e c.args.image.now c.mark_right.ensures c.if-not-mark_right.false-raw c.locks_right.ensures c.if-not-locks_right.false-raw c.read_areas-a.ensures,
       all_kept c.args.e c.read_areas-a.result

@@ -13,12 +13,12 @@ loop-at-init c = (omega arith, refl)
 
 -- a byte that is not zero
 pub returns-then-byte_of-ne0 : goal.returns-then-byte_of-ne0
-returns-then-byte_of-ne0 c = 
+returns-then-byte_of-ne0 c =
     sym (at_fault _ _ c.loop-at-test.true (λ e. c.if-byte_of-ne0.true (c.byte_of.ensures ∙ e))) ∙ c.loop-at.invariant.1
 
 -- a byte that is zero
 pub loop-at-preserved : goal.loop-at-preserved
-loop-at-preserved c = 
+loop-at-preserved c =
     let within = c.loop-at-test.true in
     (omega (arith, within), sym (after_zero _ _ within (sym c.byte_of.ensures ∙ c.if-byte_of-ne0.false)) ∙ c.loop-at.invariant.1)
 

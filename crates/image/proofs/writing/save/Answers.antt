@@ -11,7 +11,7 @@ use Rattle.image.proofs.writing.save.Goals as goal
 -- the header, and the memory after it, are all of the image
 pub returns : goal.returns
 unfolding image_of
-returns c = 
+returns c =
     let both = put_then (sym (header_length_lem _ _)) c.write_header.ensures
     c.copy_all.ensures in
     (search rules, put_all both (simp (length-append, header_length_lem) c.requires))

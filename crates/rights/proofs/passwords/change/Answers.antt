@@ -8,7 +8,7 @@ use Rattle.rights.proofs.passwords.change.Goals as goal
 
 -- a password that is replaced is one of the four
 pub bounds-keys-i : goal.bounds-keys-i
-bounds-keys-i c = 
+bounds-keys-i c =
     let decided = c.change_verdict-answer.ensures in
     omega (arith, (change_open _ _ (sym decided ∙ c.in-Success.is)).0)
 

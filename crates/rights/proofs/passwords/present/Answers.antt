@@ -28,5 +28,5 @@ session_of-session-requires c = search proves
 -- a right value
 pub returns : goal.returns
 unfolding present_of
-returns c = 
+returns c =
     rw (le-ltb _ _ c.if-n-gt3.false, eq-eqb _ _ c.if-k-i.false, ← c.session_of-session.ensures)

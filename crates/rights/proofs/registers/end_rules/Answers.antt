@@ -11,7 +11,7 @@ returns-then-e-y c = rw (lt-leb _ _ c.if-e-y.true)
 
 -- x is below E, so y has to be above it, and the last rule says nothing
 pub returns-then-x-e : goal.returns-then-x-e
-returns-then-x-e c = 
+returns-then-x-e c =
     let other = ne_eqb c.args.x c.args.e (λ same. omega arith) in
     rw (le-leb _ _ c.if-e-y.false, lt-ltb _ _ c.if-x-e.true, other, and_true)
 

@@ -17,7 +17,7 @@ returns-then-not-is_register c = rw (← c.is_register.ensures, c.if-not-is_regi
 -- 0Fh: not permitted
 pub returns-then-not-permitted : goal.returns-then-not-permitted
 unfolding register_verdict
-returns-then-not-permitted c = 
+returns-then-not-permitted c =
     rw (kept c.is_register.ensures c.if-not-is_register.false-raw, ← c.permitted.ensures, c.if-not-permitted.true-raw)
 
 -- 13h: not allowed

@@ -18,5 +18,5 @@ bounds-room-n-2 c = simp length-set (omega arith)
 
 -- the CRC stands after them
 pub returns : goal.returns
-returns c = 
+returns c =
     seal_put c.args.room.now c.args.n (omega (arith, c.if-n-eq0.false)) c.requires c.crc_bytes-c.ensures

@@ -7,5 +7,5 @@ use Rattle.step.proofs.commands.present.Goals as goal
 -- the answer is the verdict of the presentation, and its keys are the tag's
 pub returns : goal.returns
 unfolding perform
-returns c = 
+returns c =
     λ m. rw (c.with_keys.ensures, c.present-p.ensures) at (c.settle.ensures m)

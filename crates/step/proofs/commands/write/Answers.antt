@@ -48,7 +48,7 @@ shape_of-room-then-not-is_granted c = search rules
 
 -- a write that is refused
 pub returns-then-not-is_granted : goal.returns-then-not-is_granted
-returns-then-not-is_granted c = 
+returns-then-not-is_granted c =
     rw (
       ← c.limit-limit.ensures,
       ← c.first_block-first.ensures,
@@ -65,12 +65,12 @@ head-start-requires c = search rules
 
 -- the blocks' bytes begin within the fields
 pub slice_bounds-write_blocks-count : goal.slice_bounds-write_blocks-count
-slice_bounds-write_blocks-count c = 
+slice_bounds-write_blocks-count c =
     omega (arith, c.head-start.ensures, c.requires.fields_in_bounds)
 
 -- the blocks' bytes begin within the fields
 pub slice_bounds-write_blocks-start : goal.slice_bounds-write_blocks-start
-slice_bounds-write_blocks-start c = 
+slice_bounds-write_blocks-start c =
     omega (arith, c.head-start.ensures, c.requires.fields_in_bounds)
 
 pub slice_bounds-write_blocks-end : goal.slice_bounds-write_blocks-end
@@ -79,7 +79,7 @@ slice_bounds-write_blocks-end c = search rules
 
 -- the blocks lie in the memory, and the fields have their bytes
 pub write_blocks-requires : goal.write_blocks-requires
-write_blocks-requires c = 
+write_blocks-requires c =
     let success =
     granted_success c.write_verdict-verdict.result
     (sym c.is_granted.ensures ∙ not-false _ c.if-not-is_granted.false-raw) in
@@ -88,7 +88,7 @@ write_blocks-requires c =
 
 -- success fits the room
 pub settle-requires-2 : goal.settle-requires-2
-settle-requires-2 c = 
+settle-requires-2 c =
     omega (arith, c.requires.in_bounds)
 
 pub shape_of-memory : goal.shape_of-memory
@@ -101,7 +101,7 @@ shape_of-room c = search rules
 
 -- a write that is granted
 pub returns : goal.returns
-returns c = 
+returns c =
     let success = granted_success c.write_verdict-verdict.result (sym c.is_granted.ensures ∙ not-false _ c.if-not-is_granted.false-raw) in
     rw (
       ← c.limit-limit.ensures,

@@ -8,7 +8,7 @@ use Rattle.step.proofs.commands.write_register.Goals as goal
 
 -- the answer is the verdict of the write, and its vault is the tag's
 pub returns : goal.returns
-returns c = 
+returns c =
     let written = c.write_register-w.ensures in
     let a = c.args in
     register_written a.hold a.t (register_verdict a.e (view_of a.t.vault) a.address a.value) a.address a.value

@@ -9,7 +9,7 @@ use Rattle.step.proofs.rounds.in_slot.Goals as goal
 -- the slot is the tag's own: it answers
 pub returns-then-own_slot-slot : goal.returns-then-own_slot-slot
 unfolding in_slot
-returns-then-own_slot-slot c =  rw (← c.own_slot.ensures, eq-eqb _ _ c.if-own_slot-slot.true)
+returns-then-own_slot-slot c = rw (← c.own_slot.ensures, eq-eqb _ _ c.if-own_slot-slot.true)
     c.put_inventory.ensures
 
 -- it is another's

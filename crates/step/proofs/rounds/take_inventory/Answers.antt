@@ -14,14 +14,14 @@ returns-then-unheard_inventory c m = rw (← c.unheard_inventory.ensures, c.if-u
 -- one slot: the answer
 pub returns-then-one_slot : goal.returns-then-one_slot
 unfolding inventory_of
-returns-then-one_slot c m = 
+returns-then-one_slot c m =
     rw (← c.unheard_inventory.ensures, c.if-unheard_inventory.false, ← c.one_slot.ensures, c.if-one_slot.true)
     (shown false c.args.t _ c.put_inventory.ensures m)
 
 -- sixteen: the round opens at slot 0
 pub returns : goal.returns
 unfolding slot_of in_slot inventory_of
-returns c m = 
+returns c m =
     let said = told c.set_front-tag.result (in_slot c.set_round-front.result 0 c.mask_length-mask.result) c.in_slot-length.ensures m in
     rw (
       ← c.unheard_inventory.ensures,
