@@ -1,15 +1,8 @@
 -- `tray::any_equal` meets its contract.
 -- Assumes nothing.
-use mathlib.Core.Path.{◌≡◌, refl, sym, ◌∙◌}
-use Prim.Native.Nat.{◌-◌}
-use lib.ListN.{length, drop}
-use borrow.Author.Rules.{rules}
-use Rattle.tray.specs.Tray.{any_equal}
+use mathlib.Core.Path.{sym, ◌∙◌}
 use Rattle.tray.proofs.Places.{equal_here, equal_later, equal_none}
 use Rattle.tray.proofs.any_equal.Goals as goal
-
-pub loop-i-init : goal.loop-i-init
-loop-i-init c = refl
 
 -- this one comes again
 pub returns-then-is_in : goal.returns-then-is_in

@@ -1,11 +1,9 @@
 -- `tray::any_equal` meets its contract.
 -- Assumes nothing.
-use mathlib.Core.Path.{◌≡◌, refl, sym, ◌∙◌}
+use mathlib.Core.Path.{◌≡◌}
 use Prim.Native.Nat.{◌-◌}
 use lib.ListN.{length, drop}
-use borrow.Author.Rules.{rules}
 use Rattle.tray.specs.Tray.{any_equal}
-use Rattle.tray.proofs.Places.{equal_here, equal_later, equal_none}
 use Rattle.tray.proofs.any_equal.Given as goal
 
 abbrev pub invariant-loop-i : goal.invariant-loop-i

@@ -1,15 +1,8 @@
 -- `tray::is_in` meets its contract.
 -- Assumes nothing.
-use mathlib.Core.Path.{◌≡◌, refl, sym, ◌∙◌}
-use Prim.Native.Nat.{◌-◌}
-use lib.ListN.{length, drop}
-use borrow.Author.Rules.{rules}
-use Rattle.tray.specs.Tray.{is_in}
+use mathlib.Core.Path.{sym, ◌∙◌}
 use Rattle.tray.proofs.Places.{in_here, in_later, in_none}
 use Rattle.tray.proofs.is_in.Goals as goal
-
-pub loop-i-init : goal.loop-i-init
-loop-i-init c = refl
 
 -- it stands here
 pub returns-then-uid-uids : goal.returns-then-uid-uids

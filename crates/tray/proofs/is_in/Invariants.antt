@@ -1,11 +1,9 @@
 -- `tray::is_in` meets its contract.
 -- Assumes nothing.
-use mathlib.Core.Path.{◌≡◌, refl, sym, ◌∙◌}
+use mathlib.Core.Path.{◌≡◌}
 use Prim.Native.Nat.{◌-◌}
 use lib.ListN.{length, drop}
-use borrow.Author.Rules.{rules}
 use Rattle.tray.specs.Tray.{is_in}
-use Rattle.tray.proofs.Places.{in_here, in_later, in_none}
 use Rattle.tray.proofs.is_in.Given as goal
 
 abbrev pub invariant-loop-i : goal.invariant-loop-i

@@ -1,12 +1,8 @@
 -- `tray::listen` meets its contract.
 -- Assumes nothing.
-use mathlib.Core.Path.{sym, ◌∙◌}
-use mathlib.Core.Logic.{⊎_elim}
 use Prim.Native.Nat.{◌-◌}
-use native.Mathlib.Omega.{arith}
 use lib.ListN.{length}
-use borrow.Author.Rules.{rules}
-use Rattle.tray.proofs.Places.{Listening, listening, silent_next, answers_next, listened}
+use Rattle.tray.proofs.Places.{Listening}
 use Rattle.tray.proofs.listen.Given as goal
 
 abbrev pub invariant-loop-i : goal.invariant-loop-i

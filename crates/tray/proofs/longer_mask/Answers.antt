@@ -1,7 +1,6 @@
 -- `tray::longer_mask` meets its contract.
 -- Assumes nothing.
 use native.Mathlib.Omega.{arith}
-use borrow.Author.Rules.{rules}
 use Rattle.tray.proofs.Asking.{longer_fits, shifted}
 use Rattle.tray.proofs.longer_mask.Goals as goal
 
@@ -11,6 +10,3 @@ overflow_mul-result c = rw (shifted c.requires) (omega (arith, longer_fits c.req
 
 pub overflow_add-result : goal.overflow_add-result
 overflow_add-result c = rw (shifted c.requires) (omega (arith, longer_fits c.requires))
-
-pub returns : goal.returns
-returns c = rw (shifted c.requires)

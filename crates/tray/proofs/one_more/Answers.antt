@@ -1,7 +1,6 @@
 -- `tray::one_more` meets its contract.
 -- Assumes nothing.
 use native.Mathlib.Omega.{arith}
-use borrow.Author.Rules.{rules}
 use Rattle.tray.proofs.Groups.{count_fits, counted}
 use Rattle.tray.proofs.one_more.Goals as goal
 

@@ -1,7 +1,6 @@
 -- `tray::search` meets its contract: each number in its order, and what `ask` promised.
 -- Assumes nothing.
 use mathlib.Core.Path.{sym, ◌∙◌}
-use borrow.Author.Rules.{rules}
 use native.Mathlib.Omega.{arith}
 use Rattle.tray.proofs.Given.{each_place, refused_by, too_many, two_equal, too_small, search_asks, searched}
 use Rattle.tray.proofs.search.Goals as goal
@@ -25,11 +24,11 @@ returns-then-list-uids c =
 pub ask-f-requires : goal.ask-f-requires
 ask-f-requires c =
     search_asks _ _ c.if-uids-gt256.false (sym c.any_equal.ensures ∙ c.if-any_equal.false) c.if-list-uids.false
-    (each_place _ (λ i l. omega (arith, c.shared_slice_known-1.given i)))
+    (each_place _ (λ i l. omega (arith, c.type_inv.uids i)))
 
 -- none of these: the list and the number that `ask` promised
 pub returns : goal.returns
 returns c =
     searched _ _ c.if-uids-gt256.false (sym c.any_equal.ensures ∙ c.if-any_equal.false) c.if-list-uids.false
-    (each_place _ (λ i l. omega (arith, c.shared_slice_known-1.given i)))
+    (each_place _ (λ i l. omega (arith, c.type_inv.uids i)))
     c.ask-f.ensures

@@ -1,17 +1,10 @@
 -- `tray::the_one` meets its contract.
 -- Assumes nothing.
-use mathlib.Core.Path.{◌≡◌, refl, sym, ◌∙◌}
-use Prim.Native.Nat.{◌-◌}
-use lib.ListN.{length, drop}
-use borrow.Author.Rules.{rules}
+use mathlib.Core.Path.{sym, ◌∙◌}
 use borrow.Author.Tests.{eq-eqb, ne_eqb}
 use Rattle.tag.specs.Inventory.{fits}
-use Rattle.tray.specs.Tray.{those}
 use Rattle.tray.proofs.Places.{those_here, those_later, those_none}
 use Rattle.tray.proofs.the_one.Goals as goal
-
-pub loop-i-init : goal.loop-i-init
-loop-i-init c = refl
 
 -- here is the first
 pub returns-then-low_bits-mask : goal.returns-then-low_bits-mask

@@ -1,13 +1,10 @@
 -- `tray::the_one` meets its contract.
 -- Assumes nothing.
-use mathlib.Core.Path.{◌≡◌, refl, sym, ◌∙◌}
+use mathlib.Core.Path.{◌≡◌}
 use Prim.Native.Nat.{◌-◌}
 use lib.ListN.{length, drop}
-use borrow.Author.Rules.{rules}
-use borrow.Author.Tests.{eq-eqb, ne_eqb}
 use Rattle.tag.specs.Inventory.{fits}
 use Rattle.tray.specs.Tray.{those}
-use Rattle.tray.proofs.Places.{those_here, those_later, those_none}
 use Rattle.tray.proofs.the_one.Given as goal
 
 abbrev pub invariant-loop-i : goal.invariant-loop-i
