@@ -12,10 +12,7 @@ ghost use Rattle.casebook.specs.Progress.{Kept};
 use caselines::lent::Lent;
 use caselines::limits::{LINE, MEMORY, ROOM, ROW};
 use packed::RECORD;
-
-const STDIN: i32 = 0;
-
-const STDOUT: i32 = 1;
+use std::io::Read;
 
 const NEWLINE: u8 = 0x0A;
 
@@ -29,14 +26,20 @@ struct Progress {
     open: bool,
 }
 
-fn show(out: &[u8], n: usize) -> bool
+fn show(rt: &impl Print, out: &[u8], n: usize) -> bool
     requires { n ≤ length out.now }
 {
-    io::write_all(STDOUT, &out[..n])
+    rt.write_all(&out[..n]).is_ok()
 }
 
 // The line so far ends: it is answered.
-fn end_line(p: Progress, line: &[u8], memory: &mut [u8], room: &mut [u8]) -> Progress
+fn end_line(
+    rt: &impl Print,
+    p: Progress,
+    line: &[u8],
+    memory: &mut [u8],
+    room: &mut [u8],
+) -> Progress
     requires { Kept p × ((length line.now ≡ line_most) × Buffers (length memory.old) (length room.old)) }
     ensures { Kept result }
 {
@@ -46,7 +49,7 @@ fn end_line(p: Progress, line: &[u8], memory: &mut [u8], room: &mut [u8]) -> Pro
     let mut out = [0u8; ROW];
     let done = desk::answer(lent, &line[..n], &mut tag, memory, room, &mut out);
     let next = done.lent;
-    let open = show(&out, done.length);
+    let open = show(rt, &out, done.length);
     Progress {
         tag,
         lent: next,
@@ -72,6 +75,7 @@ fn add_byte(p: Progress, byte: u8, line: &mut [u8; LINE]) -> Progress
 }
 
 fn feed(
+    rt: &impl Print,
     p: Progress,
     byte: u8,
     line: &mut [u8; LINE],
@@ -82,13 +86,14 @@ fn feed(
     ensures { Kept result }
 {
     if byte == NEWLINE {
-        return end_line(p, line, memory, room);
+        return end_line(rt, p, line, memory, room);
     }
     add_byte(p, byte, line)
 }
 
 // A piece of the input, or as much of it as the output takes answers to.
 fn piece(
+    rt: &impl Print,
     start: Progress,
     bytes: &[u8],
     line: &mut [u8; LINE],
@@ -101,7 +106,7 @@ fn piece(
     let mut p = start;
     let mut i = 0;
     while i < bytes.len() {
-        p = feed(p, bytes[i], line, memory, room);
+        p = feed(rt, p, bytes[i], line, memory, room);
         if !p.open {
             return p;
         }
@@ -110,9 +115,9 @@ fn piece(
     p
 }
 
-// The input to its end, or to a read or a write that fails. A proved loop has to end, so it counts its turns down from a number that no run
-// uses up.
+// The input to its end, or to a read or a write that fails. A proved loop has to end, so it has as many turns as no run takes.
 fn run(
+    rt: &(impl Input + Print),
     start: Progress,
     line: &mut [u8; LINE],
     memory: &mut [u8; MEMORY],
@@ -123,32 +128,39 @@ fn run(
 {
     let mut p = start;
     let mut buffer = [0u8; 4096];
-    let mut turns: u64 = 0xFFFF_FFFF_FFFF_FFFF;
-    while turns > 0 {
-        let n = io::count(libc::read(STDIN, &mut buffer), &buffer);
+    let mut input = rt.reader();
+    for _ in 0..u64::MAX {
+        let Ok(n) = input.read(&mut buffer) else {
+            return p;
+        };
         if n == 0 {
             return p;
         }
-        p = piece(p, &buffer[..n], line, memory, room);
+        p = piece(rt, p, &buffer[..n], line, memory, room);
         if !p.open {
             return p;
         }
-        turns -= 1;
     }
     p
 }
 
 // A last line may lack its newline.
-fn last(p: Progress, line: &[u8; LINE], memory: &mut [u8; MEMORY], room: &mut [u8; ROOM])
+fn last(
+    rt: &impl Print,
+    p: Progress,
+    line: &[u8; LINE],
+    memory: &mut [u8; MEMORY],
+    room: &mut [u8; ROOM],
+)
     requires { Kept p }
 {
     if p.open & (0 < p.length) {
-        end_line(p, line, memory, room);
+        end_line(rt, p, line, memory, room);
     }
 }
 
 // "At the start: memory 2,048 bytes of 0, room 10,243 bytes of EEh, record: factory 16 Kbit tag with UID 0."
-fn main() {
+fn main(rt: HostRuntime) {
     let mut line = [0u8; LINE];
     let mut tag = [0u8; RECORD];
     let mut memory = [0u8; MEMORY];
@@ -164,6 +176,6 @@ fn main() {
         length: 0,
         open: true,
     };
-    let p = run(start, &mut line, &mut memory, &mut room);
-    last(p, &line, &mut memory, &mut room);
+    let p = run(&rt, start, &mut line, &mut memory, &mut room);
+    last(&rt, p, &line, &mut memory, &mut room);
 }

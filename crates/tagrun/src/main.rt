@@ -5,10 +5,7 @@
 ghost use Rattle.std.specs.Prelude.{◌≤◌, length};
 
 use lines::Progress;
-
-const STDIN: i32 = 0;
-
-const STDOUT: i32 = 1;
+use std::io::Read;
 
 // How far a run is, and whether every read and write went well.
 #[derive(Clone, Copy)]
@@ -18,14 +15,15 @@ struct Course {
 }
 
 // The first n bytes of out are written, and it answers whether they were.
-fn show(out: &[u8], n: usize) -> bool
+fn show(rt: &impl Print, out: &[u8], n: usize) -> bool
     requires { n ≤ length out.now }
 {
-    io::write_all(STDOUT, &out[..n])
+    rt.write_all(&out[..n]).is_ok()
 }
 
 // A piece of the input, to its end or to a write that fails.
 fn piece(
+    rt: &impl Print,
     start: Progress,
     bytes: &[u8],
     memory: &mut [u8; 2048],
@@ -37,7 +35,7 @@ fn piece(
     while i < bytes.len() {
         let f = lines::feed(progress, bytes[i], memory, room, out);
         progress = f.progress;
-        if !show(out, f.length) {
+        if !show(rt, out, f.length) {
             return Course {
                 progress,
                 well: false,
@@ -51,9 +49,9 @@ fn piece(
     }
 }
 
-// The input to its end, or to a read or write that fails. A proved loop has to end, so it counts its turns down from a number that no run
-// uses up.
+// The input to its end, or to a read or write that fails. A proved loop has to end, so it has as many turns as no run takes.
 fn run(
+    rt: &(impl Input + Print),
     start: Progress,
     memory: &mut [u8; 2048],
     room: &mut [u8; 10243],
@@ -61,22 +59,25 @@ fn run(
 ) -> Course {
     let mut progress = start;
     let mut buffer = [0u8; 4096];
-    let mut turns = u64::MAX;
-    while turns > 0 {
-        let got = libc::read(STDIN, &mut buffer);
-        if got <= 0 {
+    let mut input = rt.reader();
+    for _ in 0..u64::MAX {
+        let Ok(n) = input.read(&mut buffer) else {
             return Course {
                 progress,
-                well: got == 0,
+                well: false,
+            };
+        };
+        if n == 0 {
+            return Course {
+                progress,
+                well: true,
             };
         }
-        let n = io::count(got, &buffer);
-        let c = piece(progress, &buffer[..n], memory, room, out);
+        let c = piece(rt, progress, &buffer[..n], memory, room, out);
         if !c.well {
             return c;
         }
         progress = c.progress;
-        turns -= 1;
     }
     Course {
         progress,
@@ -85,19 +86,25 @@ fn run(
 }
 
 // A last line may lack its newline.
-fn last(p: Progress, memory: &mut [u8; 2048], room: &mut [u8; 10243], out: &mut [u8; 20508]) {
+fn last(
+    rt: &impl Print,
+    p: Progress,
+    memory: &mut [u8; 2048],
+    room: &mut [u8; 10243],
+    out: &mut [u8; 20508],
+) {
     let f = lines::finish(p, memory, room, out);
-    show(out, f.length);
+    show(rt, out, f.length);
 }
 
 // After a read or write that failed nothing more is read or written.
-fn main() {
+fn main(rt: HostRuntime) {
     let mut memory = [0u8; 2048];
     let mut room = [0u8; 10243];
     let mut out = [0u8; 20508];
     let start = lines::start(&mut memory);
-    let c = run(start, &mut memory, &mut room, &mut out);
+    let c = run(&rt, start, &mut memory, &mut room, &mut out);
     if c.well {
-        last(c.progress, &mut memory, &mut room, &mut out);
+        last(&rt, c.progress, &mut memory, &mut room, &mut out);
     }
 }
