@@ -22,9 +22,9 @@ up_from_at zero k i h = absurd (omega arith)
 up_from_at (suc n) k zero h = omega arith
 up_from_at (suc n) k (suc i) h = up_from_at n (suc k) i (omega arith) ∙ omega arith
 
-pub number_at : (k : ℕ) → k < 16 → get_or sixteen_numbers k 0 ≡ crc_bits 4 k
+pub number_at_lem : (k : ℕ) → k < 16 → get_or sixteen_numbers k 0 ≡ crc_bits 4 k
 unfolding sixteen_numbers crc_bits crc_bit
-number_at k h = get_or-map (crc_bits 4) (up_from 16 0) k 0 ∙ ap (crc_bits 4) (up_from_at 16 0 k h ∙ zero-add k)
+number_at_lem k h = get_or-map (crc_bits 4) (up_from 16 0) k 0 ∙ ap (crc_bits 4) (up_from_at 16 0 k h ∙ zero-add k)
 
 -- ---- k bits at a time
 
@@ -62,7 +62,7 @@ bits_apart (suc k) c =
 
 pub half_is : (c : ℕ) → half_by sixteen_numbers c ≡ crc_bits 4 c
 unfolding half_by
-half_is c = rw (number_at (c % 16) (omega arith)) (sym (bits_apart 4 c))
+half_is c = rw (number_at_lem (c % 16) (omega arith)) (sym (bits_apart 4 c))
 
 pub byte_is : (c b : ℕ) → byte_by sixteen_numbers c b ≡ crc_byte c b
 unfolding byte_by crc_byte crc_bits

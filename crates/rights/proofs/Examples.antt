@@ -10,7 +10,7 @@ use Rattle.rights.specs.declared.Session.TheVariants.{Configuration}
 use Rattle.rights.specs.declared.Verdict.{Verdict}
 use Rattle.rights.specs.declared.Verdict.TheVariants.{Success, Error}
 use Rattle.rights.specs.Vault.{view_of}
-use Rattle.rights.specs.Verdict.{afterVerdict}
+use Rattle.rights.specs.Verdict.{after_verdict}
 use Rattle.rights.specs.Passwords.{is_open}
 use Rattle.rights.specs.Blocks.{area_of}
 use Rattle.rights.specs.Registers.{is_register, allows, permits, register_verdict, with_register}
@@ -79,7 +79,7 @@ pub answers : Vault → List Step → List Verdict
 answers v [] = []
 answers v (s ∷ ss) =
     let d = register_verdict 255 (view_of v) s.address s.value in
-    d ∷ answers (afterVerdict d v (with_register v s.address s.value)) ss
+    d ∷ answers (after_verdict d v (with_register v s.address s.value)) ss
 
 pub steps_hold : answers configured steps ≡ map (λ (s : Step). s.answer) steps
 unfolding steps configured answers is_open is_register allows permits register_verdict with_register

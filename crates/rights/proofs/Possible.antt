@@ -14,7 +14,7 @@ use Rattle.rights.specs.declared.Verdict.{Verdict}
 use Rattle.rights.specs.declared.Verdict.TheVariants.{Success, Error}
 use Rattle.rights.specs.Vault.{view_of}
 use Rattle.rights.specs.Registers.{is_register, allows, permits, register_verdict, with_register, register_rule, end_rule, pair_rule, possible}
-use Rattle.rights.specs.Verdict.{afterVerdict}
+use Rattle.rights.specs.Verdict.{after_verdict}
 use Rattle.rights.proofs.Cases.{or_true, not_or, both, join}
 use Rattle.rights.proofs.Addresses.{each-address, nothing_written}
 
@@ -163,13 +163,13 @@ pub done_possible : (e : ℕ) (v : Vault) (address x : ℕ) → possible e v.are
 done_possible e v address x p h = ruled (keeps e v x (rules p) address (done_allowed e (view_of v) address x h).1)
 
 after : (e : ℕ) (v u : Vault) (d : Verdict) → possible e v.areas ≡ true → (d ≡ Success → possible e u.areas ≡ true)
-    → possible e (afterVerdict d v u).areas ≡ true
+    → possible e (after_verdict d v u).areas ≡ true
 after e v u Success p h = h refl
 after e v u (Error c) p h = p
 
 -- the theorem: whatever is written, possible registers stay possible, for any E
 pub stays_possible : (e : ℕ) (v : Vault) (address x : ℕ) → possible e v.areas ≡ true
-    → possible e (afterVerdict (register_verdict e (view_of v) address x) v (with_register v address x)).areas ≡ true
+    → possible e (after_verdict (register_verdict e (view_of v) address x) v (with_register v address x)).areas ≡ true
 stays_possible e v address x p =
     after e v (with_register v address x) (register_verdict e (view_of v) address x) p (done_possible e v address x p)
 

@@ -17,7 +17,7 @@ use Rattle.rights.specs.declared.Verdict.{Verdict}
 use Rattle.rights.specs.declared.Verdict.TheVariants.{Success, Error}
 use Rattle.rights.specs.declared.passwords.Presentation.{Presentation}
 use Rattle.rights.specs.Passwords.{session_of, is_open, password_of, with_session, with_password, present_of, change_verdict}
-use Rattle.rights.specs.Verdict.{afterVerdict}
+use Rattle.rights.specs.Verdict.{after_verdict}
 use Rattle.rights.proofs.Cases.{if-one}
 
 -- "number over 3 is 10h, sessions unchanged"
@@ -51,11 +51,11 @@ present_keeps k n w =
     (λ e. if-one (λ (p : Presentation). p.keys.passwords ≡ k.passwords) (not (eqb (password_of k n) w)) (λ e. refl) (λ e. refl))
 
 -- changing password n leaves the others, and the session, whatever the verdict
-pub change_leaves : (d : Verdict) (k : Keys) (n w m : ℕ) → m ≢ n → password_of (afterVerdict d k (with_password k n w)) m ≡ password_of k m
+pub change_leaves : (d : Verdict) (k : Keys) (n w m : ℕ) → m ≢ n → password_of (after_verdict d k (with_password k n w)) m ≡ password_of k m
 change_leaves Success k n w m other = get_or-set_other k.passwords n m w 0 other
 change_leaves (Error c) k n w m other = refl
 
-pub change_keeps : (d : Verdict) (k : Keys) (n w : ℕ) → (afterVerdict d k (with_password k n w)).session ≡ k.session
+pub change_keeps : (d : Verdict) (k : Keys) (n w : ℕ) → (after_verdict d k (with_password k n w)).session ≡ k.session
 change_keeps Success k n w = refl
 change_keeps (Error c) k n w = refl
 

@@ -91,12 +91,12 @@ abbrev pub in_session : View → Session → View
 in_session v s = record { areas = v.areas; lock0 = v.lock0; lock1 = v.lock1; lockcfg = v.lockcfg; session = s }
 
 -- block b is readable in the session of password p, and in no session that is not p's. Of one password p, 1 to 3, `hidden_by` says just this, by
--- the law hidden-by-one
+-- the law hidden_by_one
 pub record OnlyThis (p : ℕ) (v : View) (b : ℕ) : Type 0 where
   pub opens : readable_at (in_session v (session_of p)) b ≡ true
   pub others : (s : Session) → is_open s p ≡ false → readable_at (in_session v s) b ≡ false
 
--- the same of a set of passwords 1 to 3: in the session of one of them, and in no session that is none of theirs; by the law hidden-only
+-- the same of a set of passwords 1 to 3: in the session of one of them, and in no session that is none of theirs; by the law hidden_only
 pub record OnlyThese (chosen : ℕ → Bool) (v : View) (b : ℕ) : Type 0 where
   pub by : ℕ
   pub one : chosen by ≡ true

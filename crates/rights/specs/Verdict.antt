@@ -3,6 +3,6 @@
 use Rattle.rights.specs.declared.Verdict.{Verdict}
 use Rattle.rights.specs.declared.Verdict.TheVariants.{Success, Error}
 
-abbrev pub afterVerdict {ℓ} : {A : Type ℓ} → Verdict → A → A → A
-afterVerdict Success old new = new
-afterVerdict (Error c) old new = old
+abbrev pub after_verdict {ℓ} : {A : Type ℓ} → Verdict → A → A → A
+after_verdict Success old new = new
+after_verdict (Error c) old new = old

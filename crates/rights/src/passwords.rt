@@ -1,6 +1,6 @@
 // Passwords and the session that each opens.
 ghost use Rattle.std.specs.Prelude.{◌≡◌};
-ghost use Rattle.rights.specs.Verdict.{afterVerdict};
+ghost use Rattle.rights.specs.Verdict.{after_verdict};
 ghost use Rattle.rights.specs.Passwords.{is_open, any_open, session_of, present_of, change_verdict, with_password};
 
 use super::{Keys, Session, Verdict};
@@ -98,7 +98,7 @@ fn change_verdict(s: Session, n: u8) -> Verdict
 // "otherwise replaced, session kept"
 pub fn change(k: Keys, n: u8, value: u64) -> PasswordChange
     ensures answer_value { result.answer ≡ change_verdict k.session n }
-    ensures keys_value { result.keys ≡ afterVerdict (change_verdict k.session n) k (with_password k n value) }
+    ensures keys_value { result.keys ≡ after_verdict (change_verdict k.session n) k (with_password k n value) }
 {
     let s = k.session;
     let answer = change_verdict(s, n);

@@ -1,7 +1,7 @@
 // Registers by their addresses (003, Table 10).
 ghost use Rattle.std.specs.Prelude.{◌≡◌, ◌&&◌, ◌≤◌};
 ghost use Rattle.rights.specs.Vault.{view_of};
-ghost use Rattle.rights.specs.Verdict.{afterVerdict};
+ghost use Rattle.rights.specs.Verdict.{after_verdict};
 ghost use Rattle.rights.specs.Registers.{one_if, register_at, is_register, allows, permits, register_verdict, with_register, end_rule, pair_rule, possible};
 
 use super::passwords::is_open;
@@ -107,7 +107,7 @@ fn set_register(mut v: Vault, address: u8, value: u8) -> Vault
 // A write of a register, of a tag whose last end is e.
 pub fn write_register(e: u8, v: Vault, address: u8, value: u8) -> RegisterWrite
     ensures answer_value { result.answer ≡ register_verdict e (view_of v) address value }
-    ensures vault_value { result.vault ≡ afterVerdict (register_verdict e (view_of v) address value) v (with_register v address value) }
+    ensures vault_value { result.vault ≡ after_verdict (register_verdict e (view_of v) address value) v (with_register v address value) }
 {
     let view = super::seen(v);
     let answer = register_verdict(e, view, address, value);

@@ -10,7 +10,7 @@ use Rattle.put.specs.Put.{Put}
 use Rattle.rights.specs.declared.View.{View}
 use Rattle.rights.specs.declared.Verdict.{Verdict}
 use Rattle.rights.specs.declared.Verdict.TheVariants.{Success, Error}
-use Rattle.rights.specs.Verdict.{afterVerdict}
+use Rattle.rights.specs.Verdict.{after_verdict}
 use Rattle.rights.specs.Vault.{view_of}
 use Rattle.rights.specs.Passwords.{with_password}
 use Rattle.rights.specs.Registers.{with_register}
@@ -53,21 +53,21 @@ quiet false t m = record { result = refl; memory = refl; room = refl }
 module _ (hold : Bool) (t : Tag) {x x' : List ℕ} {r : Said} where
   -- a write that touches the record alone
   pub written : (v : Verdict) (us : List Unit) → ((m : List ℕ) → apply_to_memory us m ≡ m)
-      → Does hold (afterVerdict v t (apply_to_tag us t)) (says (verdict v)) x x' r → Does hold t (granted v (writes us)) x x' r
+      → Does hold (after_verdict v t (apply_to_tag us t)) (says (verdict v)) x x' r → Does hold t (granted v (writes us)) x x' r
   unfolding perform
   written Success us e d m = rw (e m) (d m)
   written (Error c) us e d m = d m
 
   -- a password changed, and a register written, as rights gives them
   pub password_written : (v : Verdict) (n w : ℕ)
-      → Does hold (with_vault t (with_keys t.vault (afterVerdict v t.vault.keys (with_password t.vault.keys n w)))) (says (verdict v)) x x' r
+      → Does hold (with_vault t (with_keys t.vault (after_verdict v t.vault.keys (with_password t.vault.keys n w)))) (says (verdict v)) x x' r
       → Does hold t (granted v (writes (password n w ∷ []))) x x' r
   unfolding perform apply_to_tag apply_to_memory
   password_written Success n w d m = d m
   password_written (Error c) n w d m = d m
 
   pub register_written : (v : Verdict) (address value : ℕ)
-      → Does hold (with_vault t (afterVerdict v t.vault (with_register t.vault address value))) (says (verdict v)) x x' r
+      → Does hold (with_vault t (after_verdict v t.vault (with_register t.vault address value))) (says (verdict v)) x x' r
       → Does hold t (granted v (writes (register address value ∷ []))) x x' r
   unfolding perform apply_to_tag apply_to_memory
   register_written Success address value d m = d m
@@ -81,12 +81,12 @@ unfolding perform
 blocks_written hold t first n bytes m m' e d = rw (blocks_leave first n bytes t, ← e) (d m')
 
 -- a verdict that is granted is success
-pub granted_success : (v : Verdict) → afterVerdict v false true ≡ true → v ≡ Success
+pub granted_success : (v : Verdict) → after_verdict v false true ≡ true → v ≡ Success
 granted_success Success h = refl
 granted_success (Error c) h = let z : ◌≡◌ {A = ℕ} 0 1 = cc in absurd (omega arith)
 
 -- what is not granted is answered, and nothing is done
-pub refused : (hold : Bool) (t : Tag) (v : Verdict) (us : List Unit) (m : List ℕ) {x x' : List ℕ} {r : Said} → afterVerdict v false true ≡ false
+pub refused : (hold : Bool) (t : Tag) (v : Verdict) (us : List Unit) (m : List ℕ) {x x' : List ℕ} {r : Said} → after_verdict v false true ≡ false
     → Does hold t (says (verdict v)) x x' r → GivesUnsealed (concluded hold (perform t m (granted v (writes us)))) x m x' r
 unfolding perform
 refused hold t Success us m h d = let z : ◌≡◌ {A = ℕ} 0 1 = cc in absurd (omega arith)

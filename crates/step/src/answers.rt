@@ -1,7 +1,7 @@
 // Answers, written into the lent room: "Success begins 00h; an error is 01h, code; CRC follows." `seal` puts the CRC to each of them, last.
 ghost use Rattle.std.specs.Prelude.{[], ◌∷◌, ◌+◌, ◌≤◌, length, take, drop};
 ghost use Rattle.put.specs.Put.{Put};
-ghost use Rattle.rights.specs.Verdict.{afterVerdict};
+ghost use Rattle.rights.specs.Verdict.{after_verdict};
 ghost use Rattle.put.specs.Number.{bytes_of};
 ghost use Rattle.tag.specs.Inventory.{inventory_answer};
 ghost use Rattle.tag.specs.Work.{verdict, error, body, says};
@@ -100,7 +100,7 @@ pub fn settle(hold: bool, v: Verdict, t: Tag, room: &mut [u8]) -> Said
 // What is refused leaves the tag as it was, and what is granted makes it the next one.
 pub fn conclude(hold: bool, t: Tag, v: Verdict, next: Tag, room: &mut [u8]) -> Said
     requires { 4 ≤ length room.old }
-    ensures { Does hold (afterVerdict v t next) (says (verdict v)) room.old room.new result }
+    ensures { Does hold (after_verdict v t next) (says (verdict v)) room.old room.new result }
 {
     match v {
         Verdict::Success => settle(hold, v, next, room),

@@ -1,7 +1,7 @@
 // The commands: what each does to record and memory, and what it answers.
 ghost use Rattle.std.specs.Prelude.{◌≡◌, true, false, ◌&&◌, [], ◌∷◌, ◌+◌, ◌*◌, ◌≤◌, length};
 ghost use Rattle.put.specs.Put.{Put};
-ghost use Rattle.rights.specs.Verdict.{afterVerdict};
+ghost use Rattle.rights.specs.Verdict.{after_verdict};
 ghost use Rattle.rights.specs.Vault.{view_of};
 ghost use Rattle.rights.specs.Passwords.{change_verdict};
 ghost use Rattle.rights.specs.Registers.{register_at, register_verdict};
@@ -229,7 +229,7 @@ fn status(t: Tag, e: Entry, hold: bool, fields: &[u8], blocks: usize, room: &mut
 
 // Whether a verdict is success.
 fn is_granted(v: Verdict) -> bool
-    ensures { result ≡ afterVerdict v false true }
+    ensures { result ≡ after_verdict v false true }
 {
     match v {
         Verdict::Success => true,

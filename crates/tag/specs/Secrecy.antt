@@ -23,8 +23,8 @@ use Rattle.tag.specs.Demand3.{Claim, Call, served}
 -- ---- "bytes of Areas 2 to 4 that only that password makes readable"
 
 -- byte i of the memory, which is in block i / 4. `hidden_by`, of rights, says of a block that it is in Areas 2 to 4, that its register has
--- protection 10 or 11, and that the register's password bits name a chosen password: of passwords 1 to 3, by the laws hidden-by-one and
--- hidden-only, of rights, that it is readable in the session of a chosen password and in no session that is none of theirs
+-- protection 10 or 11, and that the register's password bits name a chosen password: of passwords 1 to 3, by the laws hidden_by_one and
+-- hidden_only, of rights, that it is readable in the session of a chosen password and in no session that is none of theirs
 abbrev pub hidden : (ℕ → Bool) → Areas → ℕ → Bool
 hidden chosen a i = hidden_by chosen a (i / 4)
 
@@ -61,7 +61,7 @@ claim_of (presents n w) = some (record { number = n; value = w })
 claim_of (writes us) = none
 claim_of closes = none
 
--- an event presents to a tag what the tag's step on that event goes by: by the law presented-means, just what `PresentedBy` of Demand3 says
+-- an event presents to a tag what the tag's step on that event goes by: by the law presented_means, just what `PresentedBy` of Demand3 says
 unfoldable pub presented : Tag → List ℕ → Event → Option Claim
 presented t m e = claim_of (work_of t.front (view_of t.vault) (blocks_of m) e).act
 

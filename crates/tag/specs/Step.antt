@@ -89,7 +89,7 @@ pub record Stepped : Type 0 where
   pub tag : Tag
   pub memory : List ℕ
 
--- a verdict is held, or answered at once; a command whose answer is held gives a verdict, and never silence or a body: the law held-verdict
+-- a verdict is held, or answered at once; a command whose answer is held gives a verdict, and never silence or a body: the law held_verdict
 abbrev pub settled : Bool → Answer → Tag → List ℕ → Stepped
 settled true (verdict v) t m = record { answer = []; tag = with_front t (with_held t.front (held.Answer v)); memory = m }
 settled true silence t m = record { answer = []; tag = t; memory = m }
