@@ -15,7 +15,8 @@ ITEM = re.compile(
     r"(?:#\[[^\]]*\]\s*|pub(?:\([^)]*\))?\s+|ghost\s+|extern\s+\S+\s+(?=fn\b))*"
     r"(?P<word>fn|struct|enum|const|type|use|mod|impl)\b(?:<[^>]*>)?\s*(?P<name>\w+)")
 CONTRACT = re.compile(r"\b(?:requires|ensures|ghost)(?:\s+\w+)?\s*$")
-USE = re.compile(r"(?:\S+ )*use (?P<path>[^{ ]+?)(?:\.\{(?P<items>.*)\})?(?: as (?P<name>\S+))?;?")
+OF_CRATE = re.compile(r"#!\[[^\]\n]*\]")  # a line that says something of the whole crate
+USE = re.compile(r"(?:\S+ )*use (?P<path>[^{} ]+?)(?:\.\{(?P<items>[^{}]*)\})?(?: as (?P<name>[^\s{}]+))?;?")
 
 # what stands for a name: what stays if the name stays, what may change under it, and where the names in these texts come from
 Declared = collections.namedtuple("Declared", "head body reads")
@@ -43,8 +44,8 @@ class Source:
         self.faults.append((self.text.count("\n", 0, at) + 1, self.text[at:].split("\n")[0].strip()))
 
     def use(self, start, end):
-        """Notes the whole path of each name that a `use` line brings. A crate's path to itself is written as that of others to it."""
-        found = USE.fullmatch(re.sub(r"(Rattle·\w+)·\w+", r"\1", self.said(start, end).strip().replace("::", ".")))
+        """Notes the whole path of each name that a `use` line brings."""
+        found = USE.fullmatch(self.said(start, end).strip().replace("::", "."))
         if not found:
             self.fault(start)
             return
@@ -56,8 +57,8 @@ class Source:
         """What stands for each name. A text reads a name that `use` brings if it has the name, or a part of it where that is an operator."""
         for name, head in self.heads.items():
             text = head + self.bodies[name]
-            words = set(re.findall(r"\w+", text)) | {word.strip("_") for word in WORD.findall(text)}
-            reads = {word: path for word, path in self.uses.items() if words & set(filter(None, word.split("_")))}
+            words = set(re.findall(r"\w+", text)) | {word.strip("◌") for word in WORD.findall(text)}
+            reads = {word: path for word, path in self.uses.items() if words & set(filter(None, word.split("◌")))}
             yield name, Declared(head, self.bodies[name], reads)
 
 
@@ -126,7 +127,7 @@ class Antt(Source):
 
     def clause(self, at, said, current, words):
         """A clause or an `unfolding` line, of the current name, which may be an operator among its arguments, or of the first one."""
-        infix = "_" in (current or "") and set(filter(None, current.split("_"))) <= set(WORD.findall(said.split(" = ")[0]))
+        infix = "◌" in (current or "") and set(filter(None, current.split("◌"))) <= set(WORD.findall(said.split(" = ")[0]))
         name = current if infix else words[0] if words else None
         if name in self.heads:
             (self.heads if name in self.unfolds else self.bodies)[name] += said
@@ -145,6 +146,9 @@ class Code(Source):
     def block(self, start, end, prefix, context):
         """The items of a file, or of an `impl` or `mod` with braces."""
         while found := re.compile(r"\S[^\n]*").search(self.shape, start, end):
+            if OF_CRATE.fullmatch(found[0].strip()):
+                start = found.end()
+                continue
             item = ITEM.match(self.shape, found.start(), end)
             body, stop = self.extent(item, end) if item else (None, None)
             if stop:

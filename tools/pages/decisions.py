@@ -7,8 +7,8 @@ from .names import LANGUAGE, RUN, misplaced, unfiled
 from .page import quoted
 
 PATHS = "docs/DECISIONS.md", "docs/DEFINITION.md", "README.md"
-FILES = re.compile(r"(?<![\w/])(?P<crate>[a-z]+)/(?:(?P<folder>proofs|specs): )?(?P<files>[A-Z]\w*(?:, [A-Z]\w*)*)")
-IN_FILE = re.compile(RUN + r" in (?:(?P<crate>[a-z]+)/proofs/)?(?P<file>[A-Z]\w*)")
+FILES = re.compile(r"(?<![\w/])(?P<crate>[a-z]\w*)/(?:(?P<folder>proofs|specs): )?(?P<files>[A-Z]\w*(?:, [A-Z]\w*)*)")
+IN_FILE = re.compile(RUN + r" in (?:(?P<crate>[a-z]\w*)/proofs/)?(?P<file>[A-Z]\w*)")
 
 
 def listed(names, page):

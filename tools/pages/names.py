@@ -15,17 +15,17 @@ OTHERS = {
     "n.", "Bool",  # of the language: what `use M as n` puts before names, and the type of tests
     "gcc-x86-64-linux-gnu",  # a package of Debian
 }
-PLACE = (r"(?:(?<![\w/.`])(?P<crate>[a-z]+)/(?P<file>[A-Z]\w*)\b(?!/|\.\w)"
+PLACE = (r"(?:(?<![\w/.`])(?P<crate>[a-z]\w*)/(?P<file>[A-Z]\w*)\b(?!/|\.\w)"
          r"|(?P<path>(?:crates/\w+/)?(?:(?:specs|proofs)/)?[A-Z]\w*\.antt))")
 RUN = r"(?P<run>(?:`[^`]+`(?:,\s+and\s+|,\s+|\s+and\s+))*`[^`]+`)"
 RUN_AT = re.compile(RUN + r"(?:\s+\(|,\s+|\s+of\s+)" + PLACE + r"(?!:\s+`)")
-RUN_OF = re.compile(RUN + r"\s+of\s+`?(?P<crate>[a-z]+)\b`?")
+RUN_OF = re.compile(RUN + r"\s+of\s+`?(?P<crate>[a-z]\w*)\b`?")
 PATH = re.compile(r"(?<![\w/`])(?:(?:crates|docs|second|tools|include|examples|speed|bin|uistermo)/[\w.*/-]*[\w*/]"
-                  r"|[a-z]+/(?:src|specs|proofs)\b[\w./]*|(?:src|specs|proofs)/[\w./]*\w)")
+                  r"|[a-z]\w*/(?:src|specs|proofs)\b[\w./]*|(?:src|specs|proofs)/[\w./]*\w)")
 SECTION = re.compile(r"Crate `(\w+)`")
 BYTES = re.compile(r"[0-9A-F]{2,}( [0-9A-F]{2,})*|[-?]")
 CODE = re.compile(r"[\[{&=;]")
-IDENTIFIER = re.compile(r"(?<![\w′-])[^\W\d_][\w′-]*")
+IDENTIFIER = re.compile(r"(?<![\w'◌-])[^\W\d_][\w'◌-]*")
 FIELD = re.compile(r"(?<![\w./])([A-Z]\w*)\.(\w+)")
 
 
@@ -39,6 +39,7 @@ class Names:
                 self.homes.setdefault(name, []).append(place)
         for function in sources.functions:
             self.functions.setdefault(function.name, []).append(function)
+        self.laws = {name for place, source in sources.files.items() if place[1] == "proofs" for name in source.heads}
         self.reach = Reach(sources)
         self.edits = {edit for _, edit in sources.edits}
         self.text = "\n".join(path.read_text(encoding="utf-8") for path in sorted(ROOT.glob("crates/*/src/*.rt")))
@@ -115,7 +116,7 @@ class Names:
             return all(piece in self.text for piece in said.split(" .. "))
         if re.fullmatch(r"[a-z]+_", said):
             return any(edit.startswith(said) for edit in self.edits)
-        if "::" in said or "/" in said or re.fullmatch(r"[\w′-]{2,}", said):
+        if "::" in said or "/" in said or re.fullmatch(r"[\w'◌-]{2,}", said):
             return False
         return all(len(name) == 1 or name in LANGUAGE or name in OTHERS or self.known(name, crate) for name in IDENTIFIER.findall(said))
 

@@ -11,7 +11,7 @@ from .sources import read, words
 PATH = "docs/PROMISES.md"
 LEAVES_NONE = "no choice by"
 # words of a promise that only say what the code's own values are in the definition: kind and frame as an event, a vault as a view
-READ_FROM_CODE = {"eventOf", "viewOf"}
+READ_FROM_CODE = {"event_of", "view_of"}
 NO_DEFINITION = {"&mut"}
 RELATION = re.compile(r" (?:≡|≤|<) ")
 NONE, NONE_PUBLIC, PROGRAM = "(no `requires`)", "(no `requires` on any public function)", "(a program)"
@@ -32,12 +32,12 @@ def stands(said, facts):
     """Whether an expression stands in a contract, one with a relation as a whole fact of it; `..` is anything."""
     pattern = "".join(r"(?:\S+ )*" if word == ".." else re.escape(word) + " " for word in words(said).split())
     whole = RELATION.search(said)
-    return any(re.search((r"(?:^|[(×] |^λ \S+ )" if whole else "(?:^| )") + pattern + (r"(?:$|[)×])" if whole else ""), fact + " ") for fact in facts)
+    return any(re.search((r"(?:^|[(×] )" if whole else "(?:^| )") + pattern + (r"(?:$|[)×])" if whole else ""), fact + " ") for fact in facts)
 
 
 def of_repository(function, facts):
     """The definitions of this repository's specs that a contract names."""
-    brought = {name for name, path in function.uses.items() if re.match(r"Rattle·\w+\.specs\.[A-Z]", path)}
+    brought = {name for name, path in function.uses.items() if re.match(r"Rattle\.\w+\.specs\.[A-Z]", path)}
     return (brought & set(" ".join(facts).split())) - READ_FROM_CODE
 
 
@@ -63,15 +63,15 @@ def compared(functions, said, contract):
 
 
 def choices(names, functions, laws):
-    """In words, what is wrong with the laws by which a row leaves no choice: `one-put` for `Put`, `one-result` for equations, else of a definition."""
-    facts = [" ".join(function.ensures) for function in functions]
-    for law, by in (("one-put", [" Put " in fact for fact in facts]), ("one-result", [" ≡ " in fact and " Put " not in fact for fact in facts])):
-        if laws and all(by) and law not in laws or law == "one-put" and law in laws and not all(by):
+    """In words, what is wrong with the laws by which a row leaves no choice: `one_put` for `Put`, `one-result` for equations, else of a definition."""
+    facts = [" ".join(function.ensures).split() for function in functions]
+    for law, by in (("one_put", ["Put" in fact for fact in facts]), ("one-result", ["≡" in fact and "Put" not in fact for fact in facts])):
+        if laws and all(by) and law not in laws or law == "one_put" and law in laws and not all(by):
             yield f"such a promise leaves no choice by {', '.join(laws)}"
     named = {name for function in functions for _, _, name in names.reach.all(names.reach.cited(function))}
     for law in laws:
         heads = [source.heads[law] for place, source in names.sources.files.items() if place[1] == "proofs" and law in source.heads]
-        if law not in ("one-put", "one-result") and not any(set(IDENTIFIER.findall(head)) & named for head in heads):
+        if law not in ("one_put", "one-result") and not any(set(IDENTIFIER.findall(head)) & named for head in heads):
             yield f"`{law}` says nothing of what the promise names"
 
 
@@ -87,8 +87,8 @@ def contracts(names, page, row, crate):
         yield page.fault(row.line, "the row names no definition")
     yield from (page.fault(row.line, fault) for fault in compared(functions, said, contract))
     by = row.cells[row.head.index(LEAVES_NONE)] if LEAVES_NONE in row.head else ""
-    yield from (page.fault(row.line, fault) for fault in choices(names, functions, [law for law in quoted(by) if "-" in law]))
-    if "`" in by and "-" not in "".join(quoted(by)):
+    yield from (page.fault(row.line, fault) for fault in choices(names, functions, [law for law in quoted(by) if law in names.laws]))
+    if "`" in by and not names.laws & set(quoted(by)):
         yield page.fault(row.line, f"no law leaves no choice: {by}")
 
 

@@ -2,13 +2,15 @@
 
 import re
 
-BROUGHT = re.compile(r"Rattle·(\w+)\.specs\.(\w+)\.(\S+)$")
-WORD = re.compile(r"(?<![.\w])[^\s(){}.;,@⌜⌝]+")
+from .sources import own
+
+BROUGHT = re.compile(r"Rattle\.(\w+)\.specs\.(\w+)\.(\S+)$")
+WORD = re.compile(r"(?<![.\w])[^\s(){}.;,@]+")
 
 
 def brought(uses):
-    """The definitions that `use` lines bring: (crate, file, name) of each word."""
-    return {word: found.groups() for word, found in ((word, BROUGHT.match(path)) for word, path in uses.items()) if found}
+    """The definitions of the repository that `use` lines bring: (crate, file, name) of each word."""
+    return {word: found.groups() for word, found in ((word, BROUGHT.match(path)) for word, path in uses.items() if own(path)) if found}
 
 
 class Reach:

@@ -11,11 +11,14 @@ from declared import Antt, Code
 ROOT = pathlib.Path(__file__).resolve().parents[2]
 MODULE = re.compile(r"^(pub )?mod (\w+);", re.M)
 CONTRACT = re.compile(r"\b(requires|ensures)(?:\s+\w+)?\s*\{(.*?)\}(?=\s*(?:requires\b|ensures\b|$))")
-WORD = re.compile(r"\.\.|[()]|\.?[^\s().,;{}⌜⌝]+")
+WORD = re.compile(r"\.\.|[()]|\.?[^\s().,;{}]+")
+LOOKED_AT = (".now", ".old", ".new")
+OF_FUNCTIONS = ("Invariants.antt", "Answers.antt", "Proof.antt")
 
 
 class Function(NamedTuple):
-    """A function of a crate; whether another crate can call it; its file with its first line and the last; its contract; what `use` lines bring."""
+    """A function of a crate; whether another crate can call it; its file with its first line and the last; its contract; what `use` lines bring of the
+    repository's own."""
 
     crate: str
     module: str
@@ -48,7 +51,7 @@ def read(*path):
 
 def words(text):
     """The words of a fact, without what only says when a buffer is looked at, and without brackets around one word."""
-    said = " ".join(word for word in WORD.findall(text) if word not in ("now", ".entry", ".exit"))
+    said = " ".join(word for word in WORD.findall(text) if word not in LOOKED_AT)
     while True:
         bare = re.sub(r"\( ([^\s()]+) \)", r"\1", said)
         if bare == said:
@@ -58,8 +61,14 @@ def words(text):
 
 def crates():
     """The crates of crates.txt, bottom up, and whether each is a program."""
-    names = (line.split("#")[0].split(":")[0].strip() for line in read("crates.txt").split("\n"))
-    return {name: ROOT.joinpath("crates", name, "src", "main.rt").exists() for name in names if name}
+    names = (line.split("#")[0].split(":")[0].split() for line in read("crates.txt").split("\n"))
+    return {name[0]: ROOT.joinpath("crates", name[0], "src", "main.rt").exists() for name in names if name}
+
+
+def own(path):
+    """Whether a path of a `use` line begins with a crate of the repository."""
+    first, crate, *_ = path.split(".") + [""]
+    return first == "Rattle" and ROOT.joinpath("crates", crate, "src").is_dir()
 
 
 def functions(crate, program, module="", public=True):
@@ -69,12 +78,13 @@ def functions(crate, program, module="", public=True):
     code = Code(text)
     starts = {name: text.count("\n", 0, re.search(rf"\bfn {name.split('::')[-1]}\b", text).start()) + 1 for name in code.functions}
     ends = sorted(starts.values()) + [text.count("\n") + 1]
+    uses = {word: path for word, path in code.uses.items() if own(path)}
     for name in sorted(code.functions, key=starts.get):
         contract = CONTRACT.findall(code.heads[name].strip())
         said = {word: tuple(words(fact) for kind, fact in contract if kind == word) for word in ("requires", "ensures")}
-        seen = public and not program and bool(re.match(r"(#\[\w+\] *)?pub\b", code.heads[name]))
+        seen = public and not program and bool(re.match(r"(?:#\[[^\]]*\] *)*pub\b", code.heads[name]))
         lines = range(starts[name], ends[ends.index(starts[name]) + 1])
-        yield Function(crate, module, name, seen, file, lines, said["requires"], said["ensures"], code.uses)
+        yield Function(crate, module, name, seen, file, lines, said["requires"], said["ensures"], uses)
     for found in MODULE.finditer(text):
         yield from functions(crate, program, "::".join(filter(None, (module, found[2]))), public and bool(found[1]))
 
@@ -97,7 +107,7 @@ def changes(text):
 def refusers(text):
     """What refuses an edit, by the words of its comment: names of laws, and starred cases."""
     said = re.search(r"^#.*; refused by (.*)", text, re.M)
-    return set(re.findall(r"starred case \d+|[a-z]+(?:-[a-z]+)+|(?<=law )[a-z]+", said[1])) if said else set()
+    return set(re.findall(r"starred case \d+|[a-z]+(?:_[a-z]+)+|(?<=law )[a-z]+", re.sub("`[^`]*`", "", said[1]))) if said else set()
 
 
 def worked():
@@ -117,18 +127,22 @@ class Sources:
         self.functions = [function for crate, program in self.crates.items() for function in functions(crate, program)]
         self.by_path = {function.path: function for function in self.functions}
         self.files, self.code = {}, collections.defaultdict(set)
-        for path in sorted(ROOT.glob("crates/*/*/**/*")):
+        for path in self.listed("*/**/*"):
             _, crate, folder, *below = path.relative_to(ROOT).parts
-            if path.suffix == ".antt" and folder in ("specs", "proofs") and below[-1] != "Proof.antt":
+            if path.suffix == ".antt" and folder in ("specs", "proofs") and below[-1] not in OF_FUNCTIONS:
                 self.files[crate, folder, "/".join(below)[:-5]] = Antt(path.read_text(encoding="utf-8"), folder == "proofs")
-            elif path.suffix == ".rt":
+            elif path.suffix == ".rt" and folder == "src":
                 code = Code(path.read_text(encoding="utf-8"))
                 self.code[crate] |= members(code) - code.functions
         self.declared = {place: members(source) for place, source in self.files.items()}
-        texts = {(path.parts[-3], path.stem): path.read_text(encoding="utf-8") for path in sorted(ROOT.glob("crates/*/must-fail/*.edit"))}
+        texts = {(path.parts[-3], path.stem): path.read_text(encoding="utf-8") for path in self.listed("must-fail/*.edit")}
         self.edits = {edit: changes(text) for edit, text in texts.items()}
         self.refusers = {edit: refusers(text) for edit, text in texts.items()}
         self.worked, self.session_lines = worked()
+
+    def listed(self, pattern):
+        """The files of such paths in the crates of crates.txt."""
+        return sorted(path for crate in self.crates for path in ROOT.glob(f"crates/{crate}/{pattern}"))
 
     def cases(self, table):
         """How many cases a table of crates/tag/specs/Cases.antt has: a `∷` outside brackets follows each."""

@@ -8,10 +8,10 @@ from .page import QUOTED, quoted
 
 PATH = "docs/TRACE.md"
 TOKEN = re.compile(rf"`(?P<name>[^`]+)`|{PLACE}(?P<colon>:)?|\b(?P<own>[A-Z]\w+):|(?P<next>; )")
-HEAD = re.compile(r"definition \((?P<crate>[a-z]+)(?:/(?P<file>\w+))?\b")
-OF_CRATE = re.compile(RUN + r" of (?P<crate>[a-z]+)\b")
+HEAD = re.compile(r"definition \((?P<crate>[a-z]\w*)(?:/(?P<file>\w+))?\b")
+OF_CRATE = re.compile(RUN + r" of (?P<crate>[a-z]\w*)\b")
 LIST = r"(?:(?:, | and )(?:\w+/\w+|\w+_\w+))*)"
-EDITS = re.compile(r"\bedits? (?P<list>[a-z]\w*(?:/\w+|_\w+)" + LIST), re.compile(r"(?<![\w/`.])(?P<list>[a-z]+/[a-z]\w*_\w+" + LIST)
+EDITS = re.compile(r"\bedits? (?P<list>[a-z]\w*(?:/\w+|_\w+)" + LIST), re.compile(r"(?<![\w/`.])(?P<list>[a-z]\w*/[a-z]\w*_\w+" + LIST)
 NUMBERS = r"(\d+(?:(?:, | and )\d+)*)"
 STARRED, NUMBERED = re.compile(rf"\b[Ss]tarred cases? {NUMBERS}"), re.compile(rf"(?<!tarred )\bcases? {NUMBERS} of `(\w+)`")
 NAME, KEBAB = r"(?=[0-9-]*[a-z])[a-z0-9]+(?:-[a-z0-9]+)*", r"[a-z0-9]+(?:-[a-z0-9]+)+"

@@ -238,6 +238,7 @@ fn search_form(s: &[u8]) -> Form
     }
 }
 
+#[tactic(auto, unfolding(crate::specs::Form::hex_form, text::specs::Text::bytes_of_text))]
 fn hex_form(line: &[u8], memory: usize) -> Form
     requires { memory ≤ memory_most }
     ensures { result ≡ hex_form memory line.now }
@@ -263,6 +264,7 @@ fn hex_form(line: &[u8], memory: usize) -> Form
     Form::NoForm
 }
 
+#[tactic(auto, unfolding(crate::specs::Form::number_form, text::specs::Text::bytes_of_text))]
 fn number_form(line: &[u8], memory: usize) -> Form
     requires { memory ≤ memory_most }
     ensures { result ≡ number_form memory line.now }
@@ -280,6 +282,7 @@ fn number_form(line: &[u8], memory: usize) -> Form
 }
 
 // A line, beside a memory of so many bytes.
+#[tactic(auto, unfolding(crate::specs::Form::form_of, text::specs::Text::bytes_of_text))]
 pub fn form_of(line: &[u8], memory: usize) -> Form
     requires { memory ≤ memory_most }
     ensures { result ≡ form_of memory line.now }

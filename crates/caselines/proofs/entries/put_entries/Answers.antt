@@ -1,13 +1,8 @@
 -- `caselines::entries::put_entries` meets its contract: what is written, and the entries of the bytes that are left, are all the entries.
 -- Assumes nothing.
-use Prim.Native.Nat.{◌-◌, ◌*◌, ◌/◌}
-use lib.ListN.{length}
-use Rattle.put.proofs.Written.{Written, sum}
+use Rattle.put.proofs.Written.{sum}
 use Rattle.text.proofs.Pieces.{stored}
-use Rattle.caselines.specs.Limits.{uid_length}
-use Rattle.caselines.specs.Entries.{entries_from, entries_in}
 use Rattle.caselines.proofs.Eights.{no_entries, entry, entries_end}
-use borrow.Author.Rules.{rules}
 use native.Mathlib.Omega.{arith}
 use Rattle.caselines.proofs.entries.put_entries.Goals as goal
 

@@ -2,13 +2,9 @@
 -- Assumes nothing.
 use Prim.Native.Nat.{◌-◌, ◌*◌, ◌/◌}
 use lib.ListN.{length}
-use Rattle.put.proofs.Written.{Written, sum}
-use Rattle.text.proofs.Pieces.{stored}
+use Rattle.put.proofs.Written.{Written}
 use Rattle.caselines.specs.Limits.{uid_length}
 use Rattle.caselines.specs.Entries.{entries_from, entries_in}
-use Rattle.caselines.proofs.Eights.{no_entries, entry, entries_end}
-use borrow.Author.Rules.{rules}
-use native.Mathlib.Omega.{arith}
 use Rattle.caselines.proofs.entries.put_entries.Given as goal
 
 abbrev pub invariant-loop-i : goal.invariant-loop-i

@@ -1,11 +1,7 @@
 -- `caselines::entries::put_entry_bytes` meets its contract: what is written, and the bytes of the entries that are left, are all the bytes.
 -- Assumes nothing.
-use Prim.Native.Nat.{◌-◌, ◌≤◌}
-use lib.ListN.{length, drop}
-use Rattle.put.proofs.Written.{Written, none, more}
-use Rattle.caselines.specs.Entries.{entry_bytes}
+use Rattle.put.proofs.Written.{none, more}
 use Rattle.caselines.proofs.Eights.{eight, eight_room, eight_sum, entry_bytes_end}
-use borrow.Author.Rules.{rules}
 use native.Mathlib.Omega.{arith}
 use Rattle.caselines.proofs.entries.put_entry_bytes.Goals as goal
 

@@ -2,11 +2,8 @@
 -- Assumes nothing.
 use Prim.Native.Nat.{◌-◌, ◌≤◌}
 use lib.ListN.{length, drop}
-use Rattle.put.proofs.Written.{Written, none, more}
+use Rattle.put.proofs.Written.{Written}
 use Rattle.caselines.specs.Entries.{entry_bytes}
-use Rattle.caselines.proofs.Eights.{eight, eight_room, eight_sum, entry_bytes_end}
-use borrow.Author.Rules.{rules}
-use native.Mathlib.Omega.{arith}
 use Rattle.caselines.proofs.entries.put_entry_bytes.Given as goal
 
 abbrev pub invariant-loop-i : goal.invariant-loop-i

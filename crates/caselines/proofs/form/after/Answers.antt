@@ -3,7 +3,6 @@
 use mathlib.Core.Path.{sym}
 use lib.ListN.{drop_of_length-le}
 use Rattle.put.proofs.Lists.{tail}
-use borrow.Author.Rules.{rules}
 use native.Mathlib.Nat.{le_of_lt}
 use Rattle.caselines.proofs.form.after.Goals as goal
 

@@ -4,7 +4,6 @@ use mathlib.Core.Path.{sym}
 use lib.Seq.{length-take-le}
 use Rattle.caselines.proofs.Figures.{too_short}
 use Rattle.caselines.specs.Form.{begins}
-use borrow.Author.Rules.{rules}
 use Rattle.caselines.proofs.form.begins_with.Goals as goal
 
 -- a shorter line begins with no such word

@@ -1,7 +1,6 @@
 -- `caselines::form::factory_form` meets its contract.
 -- Assumes nothing.
 use Rattle.caselines.specs.Form.{factory_form}
-use borrow.Author.Rules.{rules}
 use Rattle.caselines.proofs.form.factory_form.Goals as goal
 
 -- the digits of a UID

@@ -1,7 +1,6 @@
 -- `caselines::form::is_hex` meets its contract.
 -- Assumes nothing.
 use Rattle.caselines.specs.Form.{is_hex}
-use borrow.Author.Rules.{rules}
 use Rattle.caselines.proofs.form.is_hex.Goals as goal
 
 -- the digits are those of the definition

@@ -3,7 +3,6 @@
 use mathlib.Core.Path.{sym}
 use Rattle.caselines.specs.Form.{load_form}
 use Rattle.caselines.proofs.Chain.{past, here}
-use borrow.Author.Rules.{rules}
 use Rattle.caselines.proofs.form.load_form.Goals as goal
 
 -- digits, as many as fit

@@ -2,7 +2,6 @@
 -- Assumes nothing.
 use mathlib.Core.Path.{sym, ap, ◌∙◌}
 use Rattle.caselines.specs.Form.{memory_of}
-use borrow.Author.Rules.{rules}
 use Rattle.caselines.proofs.form.memory_form.Goals as goal
 
 -- a number of the range

@@ -4,7 +4,6 @@ use mathlib.Core.Path.{sym, ◌∙◌}
 use borrow.Author.Tests.{eq-eqb, ne_eqb}
 use Rattle.put.proofs.If.{if_true, if_false}
 use Rattle.caselines.specs.Form.{number_in}
-use borrow.Author.Rules.{rules}
 use Rattle.caselines.proofs.form.number_in.Goals as goal
 
 -- nothing is no number

@@ -1,7 +1,6 @@
 -- `caselines::form::record_form` meets its contract.
 -- Assumes nothing.
 use Rattle.caselines.specs.Form.{record_form}
-use borrow.Author.Rules.{rules}
 use Rattle.caselines.proofs.form.record_form.Goals as goal
 
 -- the digits of a record

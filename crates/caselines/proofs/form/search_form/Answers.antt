@@ -5,7 +5,6 @@ use native.Mathlib.Nat.{le_of_lt}
 use lib.Seq.{length-take-le}
 use borrow.Author.Tests.{le-leb, lt-leb}
 use Rattle.caselines.specs.Form.{search_form}
-use borrow.Author.Rules.{rules}
 use Rattle.caselines.proofs.form.search_form.Goals as goal
 
 -- no space

@@ -1,11 +1,7 @@
 -- `caselines::form::space_in` meets its contract: what was passed, and what is left before the space, make its place.
 -- Assumes nothing.
-use mathlib.Core.Path.{◌≡◌, sym, ◌∙◌}
-use Prim.Native.Nat.{◌+◌, ◌-◌}
-use lib.ListN.{length, drop}
-use Rattle.caselines.specs.Form.{space_in}
+use mathlib.Core.Path.{sym, ◌∙◌}
 use Rattle.caselines.proofs.Figures.{a_space, no_space, no_more_spaces}
-use borrow.Author.Rules.{rules}
 use native.Mathlib.Omega.{arith}
 use Rattle.caselines.proofs.form.space_in.Goals as goal
 

@@ -1,12 +1,9 @@
 -- `caselines::form::space_in` meets its contract: what was passed, and what is left before the space, make its place.
 -- Assumes nothing.
-use mathlib.Core.Path.{◌≡◌, sym, ◌∙◌}
+use mathlib.Core.Path.{◌≡◌}
 use Prim.Native.Nat.{◌+◌, ◌-◌}
 use lib.ListN.{length, drop}
 use Rattle.caselines.specs.Form.{space_in}
-use Rattle.caselines.proofs.Figures.{a_space, no_space, no_more_spaces}
-use borrow.Author.Rules.{rules}
-use native.Mathlib.Omega.{arith}
 use Rattle.caselines.proofs.form.space_in.Given as goal
 
 abbrev pub invariant-loop-i : goal.invariant-loop-i

@@ -1,7 +1,6 @@
 -- `caselines::form::tags_form` meets its contract.
 -- Assumes nothing.
 use Rattle.caselines.specs.Form.{tags_form}
-use borrow.Author.Rules.{rules}
 use Rattle.caselines.proofs.form.tags_form.Goals as goal
 
 -- the digits of UIDs

@@ -1,6 +1,5 @@
 -- `caselines::lent::lend` meets its contract, in each arm.
 -- Assumes nothing.
-use borrow.Author.Rules.{rules}
 use Rattle.caselines.proofs.lent.lend.Goals as goal
 
 -- memory is lent

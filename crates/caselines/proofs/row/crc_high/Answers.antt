@@ -1,6 +1,5 @@
 -- `caselines::row::crc_high` meets its contract.
 -- Assumes nothing.
-use borrow.Author.Rules.{rules}
 use Rattle.caselines.proofs.row.crc_high.Goals as goal
 
 -- the two bytes are those of the CRC

@@ -1,6 +1,5 @@
 -- `caselines::row::put_fault` meets its contract: three characters, and the place after them.
 -- Assumes nothing.
-use borrow.Author.Rules.{rules}
 use Rattle.caselines.proofs.Rows.{both_put}
 use Rattle.caselines.proofs.row.put_fault.Goals as goal
 

@@ -5,7 +5,6 @@ use native.Mathlib.Omega.{arith}
 use Rattle.text.proofs.Pieces.{put_last}
 use Rattle.caselines.specs.Row.{shown}
 use Rattle.caselines.proofs.Rows.{first_room, end_within}
-use borrow.Author.Rules.{rules}
 use Rattle.caselines.proofs.row.put_field.Goals as goal
 
 -- the digits have room

@@ -5,7 +5,6 @@ use native.Mathlib.Omega.{arith}
 use lib.Seq.{length-take-le}
 use Rattle.text.proofs.Pieces.{put_there, put_within}
 use Rattle.caselines.proofs.Eights.{entry_bytes_length}
-use borrow.Author.Rules.{rules}
 use Rattle.caselines.proofs.row.put_found.Goals as goal
 
 -- the bytes have room in their buffer

@@ -5,7 +5,6 @@ use Rattle.text.proofs.Pieces.{put_within}
 use Rattle.caselines.specs.Entries.{entry_bytes}
 use Rattle.caselines.specs.Row.{shown, field, crc_high, pair_text}
 use Rattle.caselines.proofs.Rows.{first_room, second_room, both_within, both_put}
-use borrow.Author.Rules.{rules}
 use Rattle.caselines.proofs.row.put_list.Goals as goal
 
 -- the first piece has room
@@ -13,7 +12,10 @@ pub put_found-at-requires : goal.put_found-at-requires
 unfolding pair_text
 put_found-at-requires c =
     let sum = field 0x0A (shown (crc_high (entry_bytes c.args.list.now))) in
-    record { found_len_bound = c.requires.suits_lists.of_found; found_in_bounds = first_room (field 0x20 (shown (entry_bytes c.args.found.now))) sum c.requires.list_in_bounds }
+    record {
+      found_len_bound = c.requires.suits_lists.of_found;
+      found_in_bounds = first_room (field 0x20 (shown (entry_bytes c.args.found.now))) sum c.requires.list_in_bounds;
+    }
 
 -- what it leaves begins within out
 pub slice_bounds-put_field-count : goal.slice_bounds-put_field-count

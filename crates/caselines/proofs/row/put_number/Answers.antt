@@ -5,7 +5,6 @@ use native.Mathlib.Omega.{arith}
 use Rattle.text.specs.Text.{decimal_of}
 use Rattle.text.proofs.Pieces.{put_last}
 use Rattle.caselines.proofs.Rows.{first_room, end_within}
-use borrow.Author.Rules.{rules}
 use Rattle.caselines.proofs.row.put_number.Goals as goal
 
 -- the number has room

@@ -6,7 +6,6 @@ use Rattle.text.specs.Text.{decimal_of}
 use Rattle.packed.specs.Result.{refusal_in, place_in, length_in}
 use Rattle.caselines.specs.Row.{field, column_text, numbers_text}
 use Rattle.caselines.proofs.Rows.{first_room, second_room, both_within, both_put}
-use borrow.Author.Rules.{rules}
 use Rattle.caselines.proofs.row.put_numbers.Goals as goal
 
 -- the column has room

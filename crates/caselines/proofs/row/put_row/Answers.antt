@@ -4,7 +4,6 @@ use native.Mathlib.Omega.{arith}
 use Rattle.text.proofs.Pieces.{put_within}
 use Rattle.caselines.specs.Row.{numbers_text, rest_text, row_text}
 use Rattle.caselines.proofs.Rows.{first_room, second_room, both_within, both_put}
-use borrow.Author.Rules.{rules}
 use Rattle.caselines.proofs.row.put_row.Goals as goal
 
 -- the first piece has room

@@ -6,13 +6,15 @@ use native.Mathlib.Omega.{arith}
 use borrow.Author.Tests.{eq-eqb, ne_eqb}
 use Rattle.caselines.specs.Row.{search_text}
 use Rattle.caselines.proofs.Rows.{search_row_most, part_length, part_most, part_same}
-use borrow.Author.Rules.{rules}
 use Rattle.caselines.proofs.row.put_search.Goals as goal
 
 -- a refused search: none are shown
 pub put_search_row-requires : goal.put_search_row-requires
 put_search_row-requires c =
-    record { suits_lists = record { of_found = omega arith; of_list = c.requires.of_list }; list_in_bounds = le_trans (search_row_most _ _ _ (omega arith)) c.requires.of_out }
+    record {
+      suits_lists = record { of_found = omega arith; of_list = c.requires.of_list };
+      list_in_bounds = le_trans (search_row_most _ _ _ (omega arith)) c.requires.of_out;
+    }
 
 -- its line
 pub returns-then-refusal_in-ne0 : goal.returns-then-refusal_in-ne0
@@ -28,7 +30,10 @@ slice_bounds-put_search_row-end-2 c = sym (part_length _ _ c.least-n.ensures)
 pub put_search_row-requires-2 : goal.put_search_row-requires-2
 put_search_row-requires-2 c =
     let most = part_most _ _ c.least-n.ensures c.requires.of_list in
-    record { suits_lists = record { of_found = most; of_list = c.requires.of_list }; list_in_bounds = le_trans (search_row_most _ _ _ most) c.requires.of_out }
+    record {
+      suits_lists = record { of_found = most; of_list = c.requires.of_list };
+      list_in_bounds = le_trans (search_row_most _ _ _ most) c.requires.of_out;
+    }
 
 -- the part has as many entries as there are tags
 pub returns : goal.returns

@@ -4,7 +4,6 @@ use native.Mathlib.Omega.{arith}
 use Rattle.text.proofs.Pieces.{put_within}
 use Rattle.caselines.specs.Row.{numbers_text, list_text, search_row_text}
 use Rattle.caselines.proofs.Rows.{first_room, second_room, both_within, both_put}
-use borrow.Author.Rules.{rules}
 use Rattle.caselines.proofs.row.put_search_row.Goals as goal
 
 -- the first piece has room
@@ -25,7 +24,10 @@ slice_bounds-put_list-start c = put_within c.put_numbers-at.ensures
 pub put_list-requires : goal.put_list-requires
 unfolding search_row_text
 put_list-requires c =
-    record { suits_lists = c.requires.suits_lists; list_in_bounds = second_room (list_text c.args.found.now c.args.list.now) c.put_numbers-at.ensures c.requires.list_in_bounds }
+    record {
+      suits_lists = c.requires.suits_lists;
+      list_in_bounds = second_room (list_text c.args.found.now c.args.list.now) c.put_numbers-at.ensures c.requires.list_in_bounds;
+    }
 
 -- both lie within out
 pub overflow_add-result : goal.overflow_add-result

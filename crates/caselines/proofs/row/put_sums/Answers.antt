@@ -1,6 +1,5 @@
 -- `caselines::row::put_sums` meets its contract.
 -- Assumes nothing.
-use borrow.Author.Rules.{rules}
 use Rattle.caselines.proofs.row.put_sums.Goals as goal
 
 -- the two sums have room
