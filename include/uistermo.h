@@ -1,7 +1,7 @@
 /*
  * uistermo.h: a proved ST25TV16KC or ST25TV64KC tag for a host in C.
  *
- * Link target/staticlib/libcabi.a, which `rt staticlib cabi` proves and writes (x86-64): tools/link-c does both. examples/host.c is the shortest
+ * Link target/staticlib/libcabi.a, which tools/link-c proves and writes (x86-64), from the crate cabi_c. examples/host.c is the shortest
  * host, uistermo/ one that keeps tags in image files.
  * What each call returns and leaves is proved for every input: crates/cabi/specs/Calls.antt says it, and this page says it in C.
  *

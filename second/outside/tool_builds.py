@@ -2,14 +2,12 @@
 
 import glob
 import os
-import platform
 import subprocess
 
 from .tool_runs import Trial
 
 SANITIZERS = ("-g", "-O1", "-fsanitize=address,undefined", "-fno-sanitize-recover=all")
 FLAGS = ("-std=c11", "-Wall", "-Wextra", "-Werror", *SANITIZERS)
-CALLS = ("event", "load", "save", "factory", "search")
 # A report ends with a status that the tool has not. What a command has not freed at its end goes back to the system.
 OPTIONS = ("ASAN_OPTIONS=exitcode=99:detect_leaks=0", "UBSAN_OPTIONS=exitcode=99:print_stacktrace=1")
 SMALLEST = "int main(void) { return 0; }\n"
@@ -29,26 +27,15 @@ def has_sanitizers(compiler, folder):
     return True
 
 
-def library_words(root):
-    """The proved library where the processor runs it; else the plain C of speed/ under the library's names.
-
-    A sanitizer does not run under the emulator. What is tried here is the tool's own C, not the library.
-    """
-    if platform.machine() == "x86_64":
-        return ["-no-pie"], [os.path.join(root, "target", "staticlib", "libcabi.a")]
-    names = [f"-Duistermo_{call}=plain_{call}" for call in CALLS]
-    return [*names, "-I", os.path.join(root, "speed")], [os.path.join(root, "speed", "plain.c")]
-
-
 def sanitized(root, folder):
     """The command of a build with sanitizers; '' where the compiler has none, None where the sources do not build."""
     compiler, program = os.environ.get("CC", "gcc"), os.path.join(folder, "uistermo")
     if not has_sanitizers(compiler, folder):
         print(f"tool, sanitized: not tried, for {compiler} has no sanitizers here", flush=True)
         return ""
-    words, library = library_words(root)
+    library = os.path.join(root, "target", "staticlib", "libcabi.a")  # tools/link-c has written it for bin/uistermo
     sources = sorted(glob.glob(os.path.join(root, "uistermo", "*.c")))
-    build = [compiler, *FLAGS, *words, "-I", os.path.join(root, "include"), "-o", program, *sources, *library]
+    build = [compiler, *FLAGS, "-no-pie", "-I", os.path.join(root, "include"), "-o", program, *sources, library]
     if subprocess.run(build, check=False).returncode:
         return None
     return ["env", *OPTIONS, program]

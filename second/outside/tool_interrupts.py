@@ -1,7 +1,6 @@
 """Sessions that go on while the tool runs: answers line by line, interrupts, and the end without one."""
 
 import os
-import re
 import resource
 import select
 import signal
@@ -20,9 +19,7 @@ TO_FILL_A_PIPE = 0.5  # seconds; were it not full by then, the tool would still 
 TO_START = 1  # seconds
 TO_END = 0.1  # seconds in which a signal that is heard would have ended it
 WAITS = tuple(turn / 4000 for turn in range(24))  # seconds
-# An emulator has its own line for a signal with which the system keeps a copy of the memory.
-INTERRUPTED = re.compile(re.escape(said("interrupted; no image is written")) +
-                         rb"(qemu: uncaught target signal 3 [^\n]*\n)?")
+INTERRUPTED = said("interrupted; no image is written")
 
 
 def hear_signals():

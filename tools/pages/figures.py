@@ -59,7 +59,7 @@ def faults(sources, pages, texts):
 
 
 def seconds(sources, page, log):
-    """The seconds of each crate, from a log of `rt prove` or `rt ci` where there is one, or else from the page; and of all."""
+    """The seconds of each crate, from a log of tools/prove where there is one, or else from the page; and of all."""
     found = dict(PROVED.findall(log)) if log is not None else {crate: row[-1] for crate, (_, row) in said(page).items()}
     lacks = [crate for crate in sources.crates if crate not in found]
     if lacks:

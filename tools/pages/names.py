@@ -13,7 +13,6 @@ OTHERS = {
     "axioms=2",  # what the gate prints
     "003, 4.2.1:",  # how a comment names a source
     "n.", "Bool",  # of the language: what `use M as n` puts before names, and the type of tests
-    "gcc-x86-64-linux-gnu",  # a package of Debian
 }
 PLACE = (r"(?:(?<![\w/.`])(?P<crate>[a-z]\w*)/(?P<file>[A-Z]\w*)\b(?!/|\.\w)"
          r"|(?P<path>(?:crates/\w+/)?(?:(?:specs|proofs)/)?[A-Z]\w*\.antt))")

@@ -1,5 +1,5 @@
 // The C boundary: the calls of a host over bytes, and for a search over UIDs, so that the bench's C host links the proved tag. The record is 72 bytes that
-// the caller keeps; any bytes are taken, and those that are no record are refused. `include/uistermo.h` says the same in C.
+// the caller keeps; any bytes are taken, and those that are no record are refused. `include/uistermo.h` says the same in C, and `cabi_c` hands each call to C.
 #![tactic(auto)]
 
 ghost use Rattle.std.specs.Prelude.{◌≡◌};
@@ -80,8 +80,7 @@ fn kind_in(k: u32) -> Kind
 }
 
 // An event. Another kind than 0 to 3 is none: after checks 1 to 3, silence and nothing changed
-#[unsafe(no_mangle)]
-pub extern "C" fn uistermo_event(
+pub fn uistermo_event(
     bytes: &mut [u8; RECORD],
     memory: &mut [u8],
     room: &mut [u8],
@@ -115,8 +114,7 @@ pub extern "C" fn uistermo_event(
 }
 
 // 01: "Loading checks 4, then 1, then 5"; 02: "5a to 5e stand where 5 stood." "LOAD does not look at them", the bytes that were there
-#[unsafe(no_mangle)]
-pub extern "C" fn uistermo_load(bytes: &mut [u8; RECORD], image: &[u8], memory: &mut [u8]) -> u64
+pub fn uistermo_load(bytes: &mut [u8; RECORD], image: &[u8], memory: &mut [u8]) -> u64
     ensures { LoadLeaves image.now bytes.old memory.old bytes.new memory.new result }
 {
     let size = memory.len();
@@ -136,8 +134,7 @@ pub extern "C" fn uistermo_load(bytes: &mut [u8; RECORD], image: &[u8], memory: 
 }
 
 // "the size is the memory's; fills it with zeros; refusal 1, or result 0". It does not look at the bytes that were there either
-#[unsafe(no_mangle)]
-pub extern "C" fn uistermo_factory(bytes: &mut [u8; RECORD], uid: u64, memory: &mut [u8]) -> u64
+pub fn uistermo_factory(bytes: &mut [u8; RECORD], uid: u64, memory: &mut [u8]) -> u64
     ensures { FactoryLeaves uid bytes.old memory.old bytes.new memory.new result }
 {
     let size = memory.len();
@@ -151,8 +148,7 @@ pub extern "C" fn uistermo_factory(bytes: &mut [u8; RECORD], uid: u64, memory: &
 }
 
 // "SAVE 4, 1 or 3 in 01's order"
-#[unsafe(no_mangle)]
-pub extern "C" fn uistermo_save(bytes: &[u8; RECORD], memory: &[u8], image: &mut [u8]) -> u64
+pub fn uistermo_save(bytes: &[u8; RECORD], memory: &[u8], image: &mut [u8]) -> u64
     ensures { SaveLeaves bytes.now memory.now image.old image.new result }
 {
     let size = memory.len();
@@ -169,8 +165,7 @@ pub extern "C" fn uistermo_save(bytes: &[u8; RECORD], memory: &[u8], image: &mut
 }
 
 // "the length of the result is the number of requests"
-#[unsafe(no_mangle)]
-pub extern "C" fn uistermo_search(uids: &[u64], list: &mut [u64]) -> u64
+pub fn uistermo_search(uids: &[u64], list: &mut [u64]) -> u64
     ensures { SearchLeaves uids.now list.old list.new result }
 {
     let s = tray::search(uids, list);
