@@ -14,7 +14,7 @@ load-refused mask-length no-round none-held number-from one-slot round-bytes row
 # The same, of lemmas that port.py has respelled already.
 AGAIN = "field_off held_bytes mask_fits room_most".split()
 # A definition whose head has more than a name before its colon.
-MORE = "afterVerdict".split()
+MORE = "after_verdict".split()
 
 WORD = re.compile(r"[A-Za-z_◌][\w'◌]*(?:-[\w'◌]+)*")
 HEAD = re.compile(r"^\s*(?:(?:pub|abbrev|unfoldable|opaque)\s+)*((?:[a-z_][\w'\-]*\s+)*[a-z_][\w'\-]*)\s+:(?=\s)(.*)")

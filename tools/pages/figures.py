@@ -60,7 +60,7 @@ def faults(sources, pages, texts):
 
 def seconds(sources, page, log):
     """The seconds of each crate, from a log of tools/prove where there is one, or else from the page; and of all."""
-    found = dict(PROVED.findall(log)) if log is not None else {crate: row[-1] for crate, (_, row) in said(page).items()}
+    found = dict(PROVED.findall(log)) if log is not None else {**dict.fromkeys(sources.crates, 0), **{crate: row[-1] for crate, (_, row) in said(page).items()}}
     lacks = [crate for crate in sources.crates if crate not in found]
     if lacks:
         raise ValueError(f"no seconds of {', '.join(lacks)}: a log of crates proved from nothing has a line 'rt: NAME proved (N s)' for each")
@@ -73,4 +73,4 @@ def table(sources, page, log=None):
     every, took = counted(sources), seconds(sources, page, log)
     yield f"| {' | '.join(HEAD)} |"
     yield "|---" * len(HEAD) + "|"
-    yield from (f"| {crate} | {' | '.join(f'{number:,}' for number in (*row, took[crate]))} |" for crate, row in every.items())
+    yield from (f"| {crate} | {' | '.join(f'{number:,}' for number in row)} | {f'{took[crate]:,}' if took[crate] else '-'} |" for crate, row in every.items())

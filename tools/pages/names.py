@@ -10,7 +10,7 @@ LANGUAGE = {"requires", "ensures", "pub", "fn", "mod", "match", "break", "use", 
 OTHERS = {
     "crate/File: name", "crate::module::function",  # stand for any name
     "es",  # the list of events of the theorem of demand 3
-    "axioms=2",  # what the gate prints
+    "axioms=4", "read", "write", "lseek", "rattle_errno",  # what the gate prints, and what those axioms are of
     "003, 4.2.1:",  # how a comment names a source
     "n.", "Bool",  # of the language: what `use M as n` puts before names, and the type of tests
 }
@@ -51,8 +51,8 @@ class Names:
             *sources.code.values(), sources.worked, casebook, (said.split()[0] for said in casebook), symbols,
             (word for said in symbols for word in [*IDENTIFIER.findall(said), *words(said).split()]),
             (function.module for function in sources.functions), (file for _, _, file in sources.files),
-            re.findall(r"\w+", re.sub(r"#.*", "", read("crates.txt"))), re.findall(r"\blibc::(\w+)", self.text),
-            re.findall(r"\w+", read("include/uistermo.h")), re.findall(r"def (test_\w+)", tests), options)
+            re.findall(r"\w+", re.sub(r"#.*", "", read("crates.txt"))), re.findall(r"\w+", read("include/uistermo.h")),
+            re.findall(r"def (test_\w+)", tests), options)
 
     def places(self, name):
         """The antt files that declare a name: (crate, folder, file)."""

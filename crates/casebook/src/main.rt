@@ -117,7 +117,8 @@ fn piece(
 
 // The input to its end, or to a read or a write that fails. A proved loop has to end, so it has as many turns as no run takes.
 fn run(
-    rt: &(impl Input + Print),
+    rt: &impl Print,
+    input: &mut impl Read,
     start: Progress,
     line: &mut [u8; LINE],
     memory: &mut [u8; MEMORY],
@@ -128,7 +129,6 @@ fn run(
 {
     let mut p = start;
     let mut buffer = [0u8; 4096];
-    let mut input = rt.reader();
     for _ in 0..u64::MAX {
         let Ok(n) = input.read(&mut buffer) else {
             return p;
@@ -176,6 +176,13 @@ fn main(rt: HostRuntime) {
         length: 0,
         open: true,
     };
-    let p = run(&rt, start, &mut line, &mut memory, &mut room);
+    let p = run(
+        &rt,
+        &mut rt.stdin(),
+        start,
+        &mut line,
+        &mut memory,
+        &mut room,
+    );
     last(&rt, p, &line, &mut memory, &mut room);
 }

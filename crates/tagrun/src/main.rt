@@ -51,7 +51,8 @@ fn piece(
 
 // The input to its end, or to a read or write that fails. A proved loop has to end, so it has as many turns as no run takes.
 fn run(
-    rt: &(impl Input + Print),
+    rt: &impl Print,
+    input: &mut impl Read,
     start: Progress,
     memory: &mut [u8; 2048],
     room: &mut [u8; 10243],
@@ -59,7 +60,6 @@ fn run(
 ) -> Course {
     let mut progress = start;
     let mut buffer = [0u8; 4096];
-    let mut input = rt.reader();
     for _ in 0..u64::MAX {
         let Ok(n) = input.read(&mut buffer) else {
             return Course {
@@ -103,7 +103,14 @@ fn main(rt: HostRuntime) {
     let mut room = [0u8; 10243];
     let mut out = [0u8; 20508];
     let start = lines::start(&mut memory);
-    let c = run(&rt, start, &mut memory, &mut room, &mut out);
+    let c = run(
+        &rt,
+        &mut rt.stdin(),
+        start,
+        &mut memory,
+        &mut room,
+        &mut out,
+    );
     if c.well {
         last(&rt, c.progress, &mut memory, &mut room, &mut out);
     }

@@ -1,8 +1,8 @@
 -- `blocks::put_block` meets its contract: the status byte and the bytes after it, or the bytes alone.
 -- Assumes nothing.
-use Prim.Native.Nat.{ℕ, ◌+◌, ◌-◌, ◌*◌, ◌≤◌}
+use Prim.Native.Nat.{ℕ, ◌+◌, ◌-◌, ◌*◌}
 use mathlib.Core.Path.{◌≡◌, ◌∙◌}
-use lib.ListN.{length, length-take, length-drop, length-set}
+use lib.ListN.{length-take, length-drop, length-set}
 use Rattle.put.proofs.Lists.{put_after}
 use Rattle.put.proofs.Proves.{proves}
 use native.Mathlib.Omega.{arith}

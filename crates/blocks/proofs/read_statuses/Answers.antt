@@ -1,8 +1,6 @@
 -- `blocks::read_statuses` meets its contract: what is written, and the statuses from the next block on, are all the statuses.
 -- Assumes nothing.
-use Prim.Native.Nat.{◌+◌, ◌-◌}
-use Rattle.tag.specs.Blocks.{statuses}
-use Rattle.put.proofs.Written.{Written, sum, store}
+use Rattle.put.proofs.Written.{sum, store}
 use Rattle.blocks.proofs.Listed.{none_told, all_told, outside_told, next_told}
 use Rattle.put.proofs.Proves.{proves}
 use native.Mathlib.Omega.{arith}

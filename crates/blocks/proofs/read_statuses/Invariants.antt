@@ -2,10 +2,7 @@
 -- Assumes nothing.
 use Prim.Native.Nat.{◌+◌, ◌-◌}
 use Rattle.tag.specs.Blocks.{statuses}
-use Rattle.put.proofs.Written.{Written, sum, store}
-use Rattle.blocks.proofs.Listed.{none_told, all_told, outside_told, next_told}
-use Rattle.put.proofs.Proves.{proves}
-use native.Mathlib.Omega.{arith}
+use Rattle.put.proofs.Written.{Written}
 use Rattle.blocks.proofs.read_statuses.Given as goal
 
 abbrev pub invariant-loop-n : goal.invariant-loop-n

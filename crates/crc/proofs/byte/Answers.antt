@@ -1,6 +1,5 @@
 -- `crc::byte` meets its contract: half a byte, and half a byte of what that leaves.
 -- Assumes nothing.
-use borrow.Author.Rules.{rules}
 use Rattle.crc.specs.Halves.{byte_by}
 use Rattle.crc.proofs.byte.Goals as goal
 

@@ -1,10 +1,8 @@
 -- `crc::crc` meets its contract. The loop's invariant: the register taken over the bytes that are left gives the CRC of them all.
 -- Assumes nothing.
-use Prim.Native.Nat.{◌-◌, ◌≤◌}
-use mathlib.Core.Path.{◌≡◌}
-use lib.ListN.{length, drop, get_or}
+use lib.ListN.{get_or}
 use borrow.Author.Rules.{rules}
-use Rattle.crc.specs.Crc.{crc_from, crc_of}
+use Rattle.crc.specs.Crc.{crc_of}
 use Rattle.crc.proofs.Halves.{byte_is}
 use Rattle.crc.proofs.Steps.{step, done}
 use Rattle.crc.proofs.crc.Goals as goal

@@ -2,11 +2,8 @@
 -- Assumes nothing.
 use Prim.Native.Nat.{◌-◌, ◌≤◌}
 use mathlib.Core.Path.{◌≡◌}
-use lib.ListN.{length, drop, get_or}
-use borrow.Author.Rules.{rules}
-use Rattle.crc.specs.Crc.{crc_from, crc_of}
-use Rattle.crc.proofs.Halves.{byte_is}
-use Rattle.crc.proofs.Steps.{step, done}
+use lib.ListN.{length, drop}
+use Rattle.crc.specs.Crc.{crc_from}
 use Rattle.crc.proofs.crc.Given as goal
 
 abbrev pub invariant-loop-i : goal.invariant-loop-i

@@ -6,7 +6,6 @@ use Rattle.rights.proofs.Cases.{kept}
 use Rattle.tag.specs.Step.{event_of}
 use Rattle.tag.specs.Host.{event_refused, event_done, event_given}
 use Rattle.host.proofs.Lent.{blocks_by_end, returns_by, event_by}
-use borrow.Author.Rules.{rules}
 use Rattle.host.proofs.event.Goals as goal
 
 -- 1: the memory

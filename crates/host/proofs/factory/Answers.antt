@@ -7,7 +7,6 @@ use Rattle.tag.specs.Rules.{blocks_of, last_end}
 use Rattle.tag.specs.Image.{factory}
 use Rattle.tag.specs.Host.{load_refused, factory_given}
 use Rattle.host.proofs.Lent.{end_by_size, returns_by, fills_by}
-use borrow.Author.Rules.{rules}
 use Rattle.host.proofs.factory.Goals as goal
 
 -- 1: the memory

@@ -7,7 +7,6 @@ use Rattle.tag.specs.Image.{tag_in}
 use Rattle.tag.specs.Host.{number_of, place_of, load_refused, load_given}
 use Rattle.tag.proofs.Sizes.{fitting}
 use Rattle.host.proofs.Lent.{has_header, rule_found, fault_found, returns_by, fills_by}
-use borrow.Author.Rules.{rules}
 use Rattle.host.proofs.load.Goals as goal
 
 -- 4: the image

@@ -8,7 +8,6 @@ use Rattle.tag.specs.Image.{image_of}
 use Rattle.tag.specs.Host.{save_refused, save_given}
 use Rattle.tag.proofs.Sizes.{fitting}
 use Rattle.host.proofs.Lent.{blocks_by_end, returns_by, save_by}
-use borrow.Author.Rules.{rules}
 use Rattle.host.proofs.save.Goals as goal
 
 -- 4: the image

@@ -1,7 +1,6 @@
 -- `lines::answer_line` meets its contract, in each arm.
 -- Assumes nothing.
 use mathlib.Core.Path.{refl}
-use borrow.Author.Rules.{rules}
 use Rattle.lines.proofs.answer_line.Goals as goal
 
 pub returns-in-Event : goal.returns-in-Event

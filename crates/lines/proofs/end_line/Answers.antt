@@ -1,7 +1,6 @@
 -- `lines::end_line` meets its contract: of the array, whose length is known from what owning it tells, as much is lent as is there.
 -- Assumes nothing.
 use mathlib.Core.Path.{sym}
-use lib.ListN.{length-map}
 use Rattle.lines.specs.Calls.{ended}
 use Rattle.lines.proofs.Answered.{cut_within, cut_length, cut_same}
 use borrow.Author.Rules.{rules}

@@ -1,7 +1,6 @@
 -- `lines::say` meets its contract.
 -- Assumes nothing.
 use Rattle.lines.proofs.OutputLine.{text_most}
-use borrow.Author.Rules.{rules}
 use native.Mathlib.Omega.{arith}
 use Rattle.lines.proofs.say.Goals as goal
 

@@ -1,6 +1,5 @@
 -- `packed::held_right` meets its contract.
 -- Assumes nothing.
-use borrow.Author.Rules.{rules}
 use Rattle.tag.specs.Rules.{held_rule}
 use Rattle.packed.proofs.InBytes.{held_no_error}
 use Rattle.packed.proofs.held_right.Goals as goal

@@ -1,6 +1,5 @@
 -- `packed::is_record` meets its contract: all rules, in the order in which they are tested (`record_in_parts`).
 -- Assumes nothing.
-use borrow.Author.Rules.{rules}
 use Rattle.image.proofs.Ends.{last_end_lem}
 use Rattle.rights.proofs.Cases.{broken, kept}
 use Rattle.packed.proofs.InBytes.{record_in_parts}

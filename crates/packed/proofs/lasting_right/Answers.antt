@@ -1,7 +1,6 @@
 -- `packed::lasting_right` meets its contract.
 -- Assumes nothing.
 use Rattle.packed.specs.Bytes.{lasting_rule}
-use borrow.Author.Rules.{rules}
 use Rattle.packed.proofs.lasting_right.Goals as goal
 
 -- each rule by the function that tests it

@@ -1,6 +1,5 @@
 -- `packed::off_right` meets its contract.
 -- Assumes nothing.
-use borrow.Author.Rules.{rules}
 use borrow.Author.Tests.{ne_eqb}
 use Rattle.tag.specs.Rules.{off_rule}
 use Rattle.packed.proofs.InBytes.{ready_in, closed_in, no_round_in, none_held_in}

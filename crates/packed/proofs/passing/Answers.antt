@@ -1,6 +1,5 @@
 -- `packed::passing` meets its contract.
 -- Assumes nothing.
-use borrow.Author.Rules.{rules}
 use Rattle.packed.proofs.passing.Goals as goal
 
 pub returns : goal.returns

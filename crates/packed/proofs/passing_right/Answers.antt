@@ -1,6 +1,5 @@
 -- `packed::passing_right` meets its contract: the tests stand in the order of `passing_part`, and the first that fails decides.
 -- Assumes nothing.
-use borrow.Author.Rules.{rules}
 use Rattle.rights.proofs.Cases.{broken, kept}
 use Rattle.packed.proofs.passing_right.Goals as goal
 

@@ -1,6 +1,5 @@
 -- `packed::read_front` meets its contract.
 -- Assumes nothing.
-use borrow.Author.Rules.{rules}
 use Rattle.packed.proofs.read_front.Goals as goal
 
 -- the passing parts from their places; the lasting ones are those of the header

@@ -1,7 +1,6 @@
 -- `packed::read_record` meets its contract.
 -- Assumes nothing.
 use Rattle.packed.specs.Bytes.{record_in}
-use borrow.Author.Rules.{rules}
 use Rattle.packed.proofs.read_record.Goals as goal
 
 -- it is given what the header says

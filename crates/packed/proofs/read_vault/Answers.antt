@@ -1,6 +1,5 @@
 -- `packed::read_vault` meets its contract.
 -- Assumes nothing.
-use borrow.Author.Rules.{rules}
 use Rattle.packed.proofs.read_vault.Goals as goal
 
 -- the session from its byte; the rest is that of the header

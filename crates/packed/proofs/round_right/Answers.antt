@@ -1,7 +1,6 @@
 -- `packed::round_right` meets its contract.
 -- Assumes nothing.
 use native.Mathlib.Omega.{arith}
-use borrow.Author.Rules.{rules}
 use borrow.Author.Tests.{lt-leb}
 use Rattle.rights.proofs.Cases.{and_true}
 use Rattle.tag.specs.Rules.{round_rule}

@@ -1,6 +1,5 @@
 -- `packed::together_right` meets its contract.
 -- Assumes nothing.
-use borrow.Author.Rules.{rules}
 use borrow.Author.Tests.{ne_eqb}
 use Rattle.tag.specs.Rules.{together_rule}
 use Rattle.packed.proofs.InBytes.{quiet_in, no_round_in, none_held_in}

@@ -1,6 +1,5 @@
 -- `packed::values_right` meets its contract.
 -- Assumes nothing.
-use borrow.Author.Rules.{rules}
 use Rattle.packed.proofs.values_right.Goals as goal
 
 -- the three bytes that were read are those that the rule names

@@ -1,6 +1,5 @@
 -- `packed::write_record` meets its contract.
 -- Assumes nothing.
-use borrow.Author.Rules.{rules}
 use Rattle.packed.proofs.Written.{record_put}
 use Rattle.packed.proofs.write_record.Goals as goal
 

@@ -1,7 +1,6 @@
 -- `put::byte_at` meets its contract: past the end there is the default.
 -- Assumes nothing.
 use mathlib.Core.Path.{sym}
-use borrow.Author.Rules.{rules}
 use lib.ListN.{get_or-eq_default}
 use Rattle.put.proofs.byte_at.Goals as goal
 

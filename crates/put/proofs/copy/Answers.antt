@@ -1,10 +1,7 @@
 -- `put::copy` meets its contract.
 -- Assumes nothing.
-use Prim.Native.Nat.{◌-◌}
 use native.Mathlib.Omega.{arith}
-use borrow.Author.Rules.{rules}
-use lib.ListN.{length, drop}
-use Rattle.put.proofs.Written.{Written, none, sum, store, byte, last}
+use Rattle.put.proofs.Written.{none, sum, store, byte, last}
 use Rattle.put.proofs.copy.Goals as goal
 
 pub loop-i-init : goal.loop-i-init

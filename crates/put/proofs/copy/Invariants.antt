@@ -1,10 +1,8 @@
 -- `put::copy` meets its contract.
 -- Assumes nothing.
 use Prim.Native.Nat.{◌-◌}
-use native.Mathlib.Omega.{arith}
-use borrow.Author.Rules.{rules}
 use lib.ListN.{length, drop}
-use Rattle.put.proofs.Written.{Written, none, sum, store, byte, last}
+use Rattle.put.proofs.Written.{Written}
 use Rattle.put.proofs.copy.Given as goal
 
 abbrev pub invariant-loop-i : goal.invariant-loop-i

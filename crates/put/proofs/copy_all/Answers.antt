@@ -1,13 +1,12 @@
 -- `put::copy_all` meets its contract: what stands in `out` so far is written (`Written`), in parts of 512 bytes and then the rest.
 -- Assumes nothing.
-use Prim.Native.Nat.{◌+◌, ◌-◌, ◌≤◌}
+use Prim.Native.Nat.{◌+◌, ◌-◌}
 use mathlib.Core.Path.{◌≡◌, refl}
 use native.Mathlib.Omega.{arith}
-use borrow.Author.Rules.{rules}
-use lib.ListN.{length, drop, length-drop}
+use lib.ListN.{drop, length-drop}
 use lib.Seq.{length-take-le}
 use Rattle.put.proofs.Lists.{tail_room}
-use Rattle.put.proofs.Written.{Written, none, put_part, left, room, more, put_left}
+use Rattle.put.proofs.Written.{none, put_part, left, room, more, put_left}
 use Rattle.put.proofs.copy_all.Goals as goal
 
 -- at the start nothing is written

@@ -1,13 +1,8 @@
 -- `put::copy_all` meets its contract: what stands in `out` so far is written (`Written`), in parts of 512 bytes and then the rest.
 -- Assumes nothing.
-use Prim.Native.Nat.{◌+◌, ◌-◌, ◌≤◌}
-use mathlib.Core.Path.{◌≡◌, refl}
-use native.Mathlib.Omega.{arith}
-use borrow.Author.Rules.{rules}
-use lib.ListN.{length, drop, length-drop}
-use lib.Seq.{length-take-le}
-use Rattle.put.proofs.Lists.{tail_room}
-use Rattle.put.proofs.Written.{Written, none, put_part, left, room, more, put_left}
+use Prim.Native.Nat.{◌-◌, ◌≤◌}
+use lib.ListN.{length, drop}
+use Rattle.put.proofs.Written.{Written}
 use Rattle.put.proofs.copy_all.Given as goal
 
 abbrev pub invariant-loop-i : goal.invariant-loop-i

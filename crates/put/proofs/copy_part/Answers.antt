@@ -1,12 +1,10 @@
 -- `put::copy_part` meets its contract: what stands in `out` so far is written (`Written`), sixteen bytes a turn.
 -- Assumes nothing.
-use Prim.Native.Nat.{◌+◌, ◌*◌, ◌-◌}
+use Prim.Native.Nat.{◌+◌, ◌*◌}
 use mathlib.Core.Path.{◌≡◌, sym}
 use native.Mathlib.Omega.{arith}
-use borrow.Author.Rules.{rules}
-use lib.ListN.{drop}
 use Rattle.put.proofs.Lists.{tail, tail_room}
-use Rattle.put.proofs.Written.{Written, none, put_part, part_room, last}
+use Rattle.put.proofs.Written.{none, put_part, part_room, last}
 use Rattle.put.proofs.copy_part.Goals as goal
 
 -- at the start nothing is written

@@ -1,12 +1,8 @@
 -- `put::copy_part` meets its contract: what stands in `out` so far is written (`Written`), sixteen bytes a turn.
 -- Assumes nothing.
-use Prim.Native.Nat.{◌+◌, ◌*◌, ◌-◌}
-use mathlib.Core.Path.{◌≡◌, sym}
-use native.Mathlib.Omega.{arith}
-use borrow.Author.Rules.{rules}
+use Prim.Native.Nat.{◌*◌, ◌-◌}
 use lib.ListN.{drop}
-use Rattle.put.proofs.Lists.{tail, tail_room}
-use Rattle.put.proofs.Written.{Written, none, put_part, part_room, last}
+use Rattle.put.proofs.Written.{Written}
 use Rattle.put.proofs.copy_part.Given as goal
 
 abbrev pub invariant-loop-j : goal.invariant-loop-j

@@ -1,7 +1,6 @@
 -- `put::eight_of` meets its contract.
 -- Assumes nothing.
 use native.Mathlib.Omega.{arith}
-use borrow.Author.Rules.{rules}
 use Rattle.put.proofs.Numbers.{in_parts}
 use Rattle.put.proofs.eight_of.Goals as goal
 

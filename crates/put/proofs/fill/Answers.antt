@@ -1,14 +1,11 @@
 -- `put::fill` meets its contract: as many bytes as were passed are filled, and at the end all are.
 -- Assumes nothing.
 use mathlib.Core.Path.{sym}
-use mathlib.Core.List.{List}
-use Prim.Native.Nat.{ℕ, ◌-◌, ◌<◌}
+use Prim.Native.Nat.{◌<◌}
 use native.Mathlib.Omega.{arith}
-use lib.ListN.{length, drop, replicate, length-replicate, get_or-replicate}
+use lib.ListN.{length, length-replicate, get_or-replicate}
 use Rattle.put.proofs.Lists.{put_all}
-use Rattle.put.proofs.Written.{Written, none, store, byte, last}
-use borrow.Author.Rules.{rules}
-use Rattle.put.proofs.fill.Invariants.{filled}
+use Rattle.put.proofs.Written.{none, store, byte, last}
 use Rattle.put.proofs.fill.Goals as goal
 
 -- nothing is filled yet

@@ -1,13 +1,9 @@
 -- `put::fill` meets its contract: as many bytes as were passed are filled, and at the end all are.
 -- Assumes nothing.
-use mathlib.Core.Path.{sym}
 use mathlib.Core.List.{List}
-use Prim.Native.Nat.{ℕ, ◌-◌, ◌<◌}
-use native.Mathlib.Omega.{arith}
-use lib.ListN.{length, drop, replicate, length-replicate, get_or-replicate}
-use Rattle.put.proofs.Lists.{put_all}
-use Rattle.put.proofs.Written.{Written, none, store, byte, last}
-use borrow.Author.Rules.{rules}
+use Prim.Native.Nat.{ℕ, ◌-◌}
+use lib.ListN.{length, drop, replicate}
+use Rattle.put.proofs.Written.{Written}
 use Rattle.put.proofs.fill.Given as goal
 
 -- the buffer when all of it is filled

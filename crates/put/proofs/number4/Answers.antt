@@ -1,7 +1,6 @@
 -- `put::number4` meets its contract: two halves.
 -- Assumes nothing.
 use native.Mathlib.Omega.{arith}
-use borrow.Author.Rules.{rules}
 use Rattle.put.proofs.Numbers.{in_parts}
 use Rattle.put.proofs.number4.Goals as goal
 

@@ -1,7 +1,6 @@
 -- `put::number8` meets its contract: two halves.
 -- Assumes nothing.
 use native.Mathlib.Omega.{arith}
-use borrow.Author.Rules.{rules}
 use Rattle.put.proofs.Numbers.{in_parts}
 use Rattle.put.proofs.number8.Goals as goal
 

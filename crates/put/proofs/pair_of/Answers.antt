@@ -1,7 +1,6 @@
 -- `put::pair_of` meets its contract.
 -- Assumes nothing.
 use native.Mathlib.Omega.{arith}
-use borrow.Author.Rules.{rules}
 use Rattle.put.specs.Number.{number_at}
 use Rattle.put.proofs.pair_of.Goals as goal
 

@@ -1,10 +1,7 @@
 -- `put::put_number` meets its contract. The loop's invariant: what is written, and the bytes of the rest of the number, are all its bytes.
 -- Assumes nothing.
-use Prim.Native.Nat.{◌-◌}
 use native.Mathlib.Omega.{arith}
-use borrow.Author.Rules.{rules}
-use Rattle.put.specs.Number.{bytes_of}
-use Rattle.put.proofs.Written.{Written, sum, store}
+use Rattle.put.proofs.Written.{sum, store}
 use Rattle.put.proofs.Numbers.{no_bytes, lowest, all_bytes}
 use Rattle.put.proofs.put_number.Goals as goal
 

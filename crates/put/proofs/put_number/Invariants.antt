@@ -1,11 +1,8 @@
 -- `put::put_number` meets its contract. The loop's invariant: what is written, and the bytes of the rest of the number, are all its bytes.
 -- Assumes nothing.
 use Prim.Native.Nat.{◌-◌}
-use native.Mathlib.Omega.{arith}
-use borrow.Author.Rules.{rules}
 use Rattle.put.specs.Number.{bytes_of}
-use Rattle.put.proofs.Written.{Written, sum, store}
-use Rattle.put.proofs.Numbers.{no_bytes, lowest, all_bytes}
+use Rattle.put.proofs.Written.{Written}
 use Rattle.put.proofs.put_number.Given as goal
 
 abbrev pub invariant-loop-i : goal.invariant-loop-i

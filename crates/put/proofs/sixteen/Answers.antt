@@ -1,6 +1,5 @@
 -- `put::sixteen` meets its contract.
 -- Assumes nothing.
-use borrow.Author.Rules.{rules}
 use Rattle.put.proofs.RoundTrips.{places_at, places}
 use Rattle.put.proofs.sixteen.Goals as goal
 

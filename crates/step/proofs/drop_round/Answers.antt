@@ -1,6 +1,5 @@
 -- `step::drop_round` meets its contract.
 -- Assumes nothing.
-use borrow.Author.Rules.{rules}
 use Rattle.step.proofs.drop_round.Goals as goal
 
 pub returns : goal.returns

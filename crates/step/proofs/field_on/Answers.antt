@@ -2,7 +2,6 @@
 -- Assumes nothing.
 use Rattle.put.proofs.If.{if_true, if_false}
 use mathlib.Core.Path.{sym, ◌∙◌}
-use borrow.Author.Rules.{rules}
 use Rattle.step.proofs.field_on.Goals as goal
 
 pub returns-then-f : goal.returns-then-f

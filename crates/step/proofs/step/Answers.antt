@@ -1,6 +1,5 @@
 -- `step::step` meets its contract: the event with its answer before the CRC, and the CRC after it.
 -- Assumes nothing.
-use borrow.Author.Rules.{rules}
 use Rattle.tag.specs.Step.{event_of, step}
 use Rattle.tag.proofs.Lengths.{answer_most, answer_sealed}
 use Rattle.step.proofs.Unsealed.{fits, sealed_gives}

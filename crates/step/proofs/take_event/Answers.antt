@@ -4,7 +4,6 @@ use mathlib.Core.Bool.{false}
 use Rattle.put.proofs.If.{if_true, if_false}
 use Rattle.step.proofs.Acts.{quiet, field_on_lem, field_off_lem}
 use Rattle.tag.specs.Step.{work_of, step}
-use borrow.Author.Rules.{rules}
 use native.Mathlib.Omega.{arith}
 use Rattle.step.proofs.take_event.Goals as goal
 

@@ -1,12 +1,9 @@
 -- `text::all_digits` meets its contract: what is left to look at gives the answer of the whole.
 -- Assumes nothing.
-use mathlib.Core.Path.{◌≡◌, refl, sym, ◌∙◌}
+use mathlib.Core.Path.{◌≡◌}
 use Prim.Native.Nat.{◌-◌}
 use lib.ListN.{length, drop}
-use borrow.Author.Tests.{not-true, not-false}
-use Rattle.text.proofs.Texts.{no_digit, a_digit, no_more}
 use Rattle.text.specs.Text.{all_digits}
-use borrow.Author.Rules.{rules}
 use Rattle.text.proofs.all_digits.Given as goal
 
 abbrev pub invariant-loop-i : goal.invariant-loop-i

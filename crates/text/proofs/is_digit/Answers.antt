@@ -1,6 +1,5 @@
 -- `text::is_digit` meets its contract.
 -- Assumes nothing.
-use borrow.Author.Rules.{rules}
 use Rattle.text.proofs.is_digit.Goals as goal
 
 pub returns : goal.returns

@@ -1,11 +1,7 @@
 -- `text::is_same` meets its contract: what is left to compare gives the answer of the whole.
 -- Assumes nothing.
-use mathlib.Core.Path.{◌≡◌, refl, sym, ◌∙◌}
-use Prim.Native.Nat.{◌-◌}
-use lib.ListN.{length, drop}
+use mathlib.Core.Path.{refl, sym, ◌∙◌}
 use Rattle.text.proofs.Texts.{unlike, differs, agrees, compared}
-use Rattle.text.specs.Text.{same}
-use borrow.Author.Rules.{rules}
 use native.Mathlib.Omega.{arith}
 use Rattle.text.proofs.is_same.Goals as goal
 

@@ -1,13 +1,9 @@
 -- `text::put_bytes` meets its contract: what is written, and the bytes of the digits that are left, are all the bytes.
 -- Assumes nothing.
-use Prim.Native.Nat.{◌+◌, ◌-◌, ◌≤◌}
-use lib.ListN.{length, drop, get_or}
-use Rattle.put.proofs.Written.{Written, none, sum}
-use Rattle.text.proofs.Texts.{value_most, pair, pairs_end}
-use Rattle.text.proofs.Pieces.{stored}
+use Prim.Native.Nat.{◌-◌, ◌≤◌}
+use lib.ListN.{length, drop}
+use Rattle.put.proofs.Written.{Written}
 use Rattle.text.specs.Text.{bytes_in}
-use borrow.Author.Rules.{rules}
-use native.Mathlib.Omega.{arith}
 use Rattle.text.proofs.put_bytes.Given as goal
 
 abbrev pub invariant-loop-i : goal.invariant-loop-i

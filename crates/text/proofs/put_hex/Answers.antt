@@ -1,12 +1,8 @@
 -- `text::put_hex` meets its contract: what is written, and the digits of the bytes that are left, are all the digits.
 -- Assumes nothing.
-use Prim.Native.Nat.{◌-◌, ◌≤◌}
-use lib.ListN.{length, drop}
-use Rattle.put.proofs.Written.{Written, none, sum}
+use Rattle.put.proofs.Written.{none, sum}
 use Rattle.text.proofs.Texts.{high, hex_end}
 use Rattle.text.proofs.Pieces.{one_next, stored}
-use Rattle.text.specs.Text.{hex_of}
-use borrow.Author.Rules.{rules}
 use native.Mathlib.Omega.{arith}
 use Rattle.text.proofs.put_hex.Goals as goal
 

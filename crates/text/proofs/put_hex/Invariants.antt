@@ -2,12 +2,8 @@
 -- Assumes nothing.
 use Prim.Native.Nat.{◌-◌, ◌≤◌}
 use lib.ListN.{length, drop}
-use Rattle.put.proofs.Written.{Written, none, sum}
-use Rattle.text.proofs.Texts.{high, hex_end}
-use Rattle.text.proofs.Pieces.{one_next, stored}
+use Rattle.put.proofs.Written.{Written}
 use Rattle.text.specs.Text.{hex_of}
-use borrow.Author.Rules.{rules}
-use native.Mathlib.Omega.{arith}
 use Rattle.text.proofs.put_hex.Given as goal
 
 abbrev pub invariant-loop-i : goal.invariant-loop-i

@@ -3,7 +3,6 @@
 use native.Mathlib.Omega.{arith}
 use lib.ListN.{length-drop}
 use Rattle.put.proofs.Lists.{tail, put_all}
-use borrow.Author.Rules.{rules}
 use Rattle.image.proofs.reading.load.Goals as goal
 
 -- the header is read, and all after it fills the memory

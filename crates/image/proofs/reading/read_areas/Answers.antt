@@ -1,6 +1,5 @@
 -- `image::reading::read_areas` meets its contract.
 -- Assumes nothing.
-use borrow.Author.Rules.{rules}
 use Rattle.image.proofs.reading.read_areas.Goals as goal
 
 -- each byte from its place

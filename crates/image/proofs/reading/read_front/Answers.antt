@@ -1,7 +1,6 @@
 -- `image::reading::read_front` meets its contract.
 -- Assumes nothing.
 use Rattle.tag.specs.Image.{tag_in}
-use borrow.Author.Rules.{rules}
 use Rattle.image.proofs.reading.read_front.Goals as goal
 
 -- each part from its place

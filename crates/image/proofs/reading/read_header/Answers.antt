@@ -1,6 +1,5 @@
 -- `image::reading::read_header` meets its contract.
 -- Assumes nothing.
-use borrow.Author.Rules.{rules}
 use Rattle.image.proofs.reading.read_header.Goals as goal
 
 pub returns : goal.returns

@@ -1,7 +1,6 @@
 -- `image::reading::read_keys` meets its contract.
 -- Assumes nothing.
 use Rattle.tag.specs.Image.{tag_in}
-use borrow.Author.Rules.{rules}
 use Rattle.image.proofs.reading.read_keys.Goals as goal
 
 -- each password from its place

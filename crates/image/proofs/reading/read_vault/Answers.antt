@@ -2,7 +2,6 @@
 -- Assumes nothing.
 use native.Mathlib.Nat.{div-one}
 use Rattle.tag.specs.Image.{tag_in}
-use borrow.Author.Rules.{rules}
 use Rattle.image.proofs.reading.read_vault.Goals as goal
 
 -- areas, passwords, and the bits of the lock byte

@@ -10,7 +10,6 @@ use Rattle.rights.proofs.Cases.{kept, broken}
 use Rattle.tag.specs.Fault.{reserved_fault, first_fault, header_fault}
 use Rattle.tag.specs.Image.{areas_in, mark_rule, lock_rule}
 use Rattle.image.proofs.Faults.{in_order, all_kept}
-use borrow.Author.Rules.{rules}
 use Rattle.image.proofs.rules.header_fault.Goals as goal
 
 -- where mark and locks were found right: what is left to look for from there

@@ -1,7 +1,6 @@
 -- `image::rules::locks_right` meets its contract.
 -- Assumes nothing.
 use Rattle.tag.specs.Image.{lock_rule}
-use borrow.Author.Rules.{rules}
 use Rattle.image.proofs.rules.locks_right.Goals as goal
 
 -- byte 11

@@ -1,7 +1,6 @@
 -- `image::rules::mark_right` meets its contract.
 -- Assumes nothing.
 use Rattle.tag.specs.Image.{mark_rule}
-use borrow.Author.Rules.{rules}
 use Rattle.image.proofs.rules.mark_right.Goals as goal
 
 -- byte 0, beside the mark of what follows the header

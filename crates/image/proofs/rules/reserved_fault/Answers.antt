@@ -1,11 +1,9 @@
 -- `image::rules::reserved_fault` meets its contract: what is left to look at has the fault of the whole.
 -- Assumes nothing.
 use mathlib.Core.Path.{◌≡◌, refl, sym, ◌∙◌}
-use Prim.Native.Nat.{◌-◌, ◌≤◌}
 use native.Mathlib.Omega.{arith}
 use Rattle.tag.specs.Fault.{reserved_fault}
 use Rattle.image.proofs.Reserved.{at_fault, after_zero}
-use borrow.Author.Rules.{rules}
 use Rattle.image.proofs.rules.reserved_fault.Goals as goal
 
 pub loop-at-init : goal.loop-at-init

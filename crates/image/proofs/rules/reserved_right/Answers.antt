@@ -1,7 +1,6 @@
 -- `image::rules::reserved_right` meets its contract.
 -- Assumes nothing.
 use Rattle.image.proofs.Zeros.{two_numbers}
-use borrow.Author.Rules.{rules}
 use Rattle.image.proofs.rules.reserved_right.Goals as goal
 
 -- bytes 51 to 58 and 56 to 63, as two numbers

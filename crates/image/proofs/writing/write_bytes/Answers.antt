@@ -1,6 +1,5 @@
 -- `image::writing::write_bytes` meets its contract.
 -- Assumes nothing.
-use borrow.Author.Rules.{rules}
 use Rattle.image.proofs.writing.write_bytes.Goals as goal
 
 pub returns : goal.returns

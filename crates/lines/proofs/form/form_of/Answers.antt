@@ -2,7 +2,6 @@
 -- Assumes nothing.
 use Rattle.text.specs.Text.{bytes_of_text}
 use Rattle.lines.specs.Form.{form_of}
-use borrow.Author.Rules.{rules}
 use Rattle.lines.proofs.form.form_of.Goals as goal
 
 -- ON

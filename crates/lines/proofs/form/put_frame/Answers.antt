@@ -5,7 +5,6 @@ use lib.Seq.{length-take-le}
 use lib.ListN.{length-set}
 use Rattle.text.proofs.Pieces.{put_within}
 use Rattle.lines.proofs.Sealed.{sealed_put}
-use borrow.Author.Rules.{rules}
 use native.Mathlib.Omega.{arith}
 use Rattle.lines.proofs.form.put_frame.Goals as goal
 

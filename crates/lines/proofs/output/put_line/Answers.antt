@@ -2,7 +2,6 @@
 -- Assumes nothing.
 use Rattle.put.proofs.Written.{sum, room}
 use Rattle.lines.proofs.OutputLine.{decimal_fits, space, answered, newline, line_within, line_same, line_put}
-use borrow.Author.Rules.{rules}
 use native.Mathlib.Omega.{arith}
 use Rattle.lines.proofs.output.put_line.Goals as goal
 

@@ -1,10 +1,7 @@
 -- `rights::blocks::any_barred` meets its contract: what is left to ask gives the answer of the whole run.
 -- Assumes nothing.
-use Prim.Native.Nat.{◌+◌}
-use mathlib.Core.Path.{◌≡◌, refl, sym, ◌∙◌}
-use Rattle.rights.specs.Blocks.{any_barred}
+use mathlib.Core.Path.{refl, sym, ◌∙◌}
 use Rattle.rights.proofs.Runs.{barred_here, barred_later, none_left}
-use borrow.Author.Rules.{rules}
 use native.Mathlib.Omega.{arith}
 use Rattle.rights.proofs.blocks.any_barred.Goals as goal
 

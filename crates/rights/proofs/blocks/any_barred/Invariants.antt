@@ -1,11 +1,8 @@
 -- `rights::blocks::any_barred` meets its contract: what is left to ask gives the answer of the whole run.
 -- Assumes nothing.
 use Prim.Native.Nat.{◌+◌}
-use mathlib.Core.Path.{◌≡◌, refl, sym, ◌∙◌}
+use mathlib.Core.Path.{◌≡◌}
 use Rattle.rights.specs.Blocks.{any_barred}
-use Rattle.rights.proofs.Runs.{barred_here, barred_later, none_left}
-use borrow.Author.Rules.{rules}
-use native.Mathlib.Omega.{arith}
 use Rattle.rights.proofs.blocks.any_barred.Given as goal
 
 abbrev pub invariant-loop-left : goal.invariant-loop-left

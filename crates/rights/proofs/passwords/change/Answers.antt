@@ -2,7 +2,6 @@
 -- Assumes nothing.
 use mathlib.Core.Path.{refl, sym, ◌∙◌}
 use native.Mathlib.Omega.{arith}
-use borrow.Author.Rules.{rules}
 use Rattle.rights.proofs.Sessions.{change_open}
 use Rattle.rights.proofs.passwords.change.Goals as goal
 

@@ -1,12 +1,7 @@
 -- `rights::registers::register_verdict` meets its contract.
 -- Assumes nothing.
-use mathlib.Core.Path.{◌≡◌}
-use mathlib.Core.Bool.{not}
-use Rattle.put.specs.If.{if◌then◌else◌}
-use Rattle.rights.specs.declared.Verdict.TheVariants.{Success, Error}
 use Rattle.rights.specs.Registers.{register_verdict}
 use Rattle.rights.proofs.Cases.{kept}
-use borrow.Author.Rules.{rules}
 use Rattle.rights.proofs.registers.register_verdict.Goals as goal
 
 -- 10h: no register

@@ -1,7 +1,6 @@
 -- `rights::registers::write_register` meets its contract.
 -- Assumes nothing.
 use mathlib.Core.Path.{refl}
-use borrow.Author.Rules.{rules}
 use Rattle.rights.proofs.registers.write_register.Goals as goal
 
 -- the verdict is success, and the register is written

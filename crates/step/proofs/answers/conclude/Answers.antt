@@ -1,6 +1,5 @@
 -- `step::answers::conclude` meets its contract.
 -- Assumes nothing.
-use borrow.Author.Rules.{rules}
 use Rattle.step.proofs.answers.conclude.Goals as goal
 
 pub returns-in-Success : goal.returns-in-Success

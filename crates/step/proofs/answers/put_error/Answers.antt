@@ -1,7 +1,6 @@
 -- `step::answers::put_error` meets its contract.
 -- Assumes nothing.
 use lib.ListN.{length-set}
-use borrow.Author.Rules.{rules}
 use native.Mathlib.Omega.{arith}
 use Rattle.step.proofs.Room.{error_put}
 use Rattle.step.proofs.answers.put_error.Goals as goal

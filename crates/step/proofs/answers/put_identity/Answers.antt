@@ -4,7 +4,6 @@ use mathlib.Core.Path.{◌∙◌}
 use lib.ListN.{length-set}
 use Rattle.put.proofs.Lists.{rest_room, put_after}
 use Rattle.put.proofs.Numbers.{length_bytes}
-use borrow.Author.Rules.{rules}
 use native.Mathlib.Omega.{arith}
 use Rattle.step.proofs.answers.put_identity.Goals as goal
 

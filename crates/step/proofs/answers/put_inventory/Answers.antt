@@ -3,7 +3,6 @@
 use Rattle.step.proofs.Room.{body_put, body_fits}
 use Rattle.put.proofs.Lists.{tail_room}
 use Rattle.put.proofs.Numbers.{length_bytes}
-use borrow.Author.Rules.{rules}
 use native.Mathlib.Omega.{arith}
 use Rattle.step.proofs.answers.put_inventory.Goals as goal
 

@@ -3,7 +3,6 @@
 use Rattle.step.proofs.Room.{register_put}
 use mathlib.Core.Path.{◌∙◌}
 use lib.ListN.{length-set}
-use borrow.Author.Rules.{rules}
 use native.Mathlib.Omega.{arith}
 use Rattle.step.proofs.answers.put_register.Goals as goal
 

@@ -1,6 +1,5 @@
 -- `step::answers::put_success` meets its contract.
 -- Assumes nothing.
-use borrow.Author.Rules.{rules}
 use Rattle.step.proofs.Room.{success_put}
 use Rattle.step.proofs.answers.put_success.Goals as goal
 

@@ -1,6 +1,5 @@
 -- `step::answers::put_verdict` meets its contract.
 -- Assumes nothing.
-use borrow.Author.Rules.{rules}
 use Rattle.step.proofs.answers.put_verdict.Goals as goal
 
 pub returns-in-Success : goal.returns-in-Success

@@ -3,7 +3,6 @@
 use mathlib.Core.Path.{refl}
 use Rattle.tag.specs.Work.{verdict, perform}
 use Rattle.step.proofs.Acts.{told}
-use borrow.Author.Rules.{rules}
 use Rattle.step.proofs.answers.settle.Goals as goal
 
 -- the answer is held

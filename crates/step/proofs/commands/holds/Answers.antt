@@ -1,7 +1,6 @@
 -- `step::commands::holds` meets its contract.
 -- Assumes nothing.
 use borrow.Author.Tests.{not-true, not-false}
-use borrow.Author.Rules.{rules}
 use Rattle.step.proofs.commands.holds.Goals as goal
 
 pub returns-then-not-option : goal.returns-then-not-option

@@ -7,7 +7,6 @@ use Rattle.rights.specs.Vault.{view_of}
 use Rattle.tag.specs.Work.{block_lock, apply_to_tag, apply_to_memory}
 use Rattle.tag.specs.Blocks.{lock_verdict}
 use Rattle.step.proofs.Acts.{written}
-use borrow.Author.Rules.{rules}
 use Rattle.step.proofs.commands.lock.Goals as goal
 
 -- the answer is the verdict of the lock, and where it is success the vault has the block locked

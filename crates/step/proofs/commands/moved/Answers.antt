@@ -1,6 +1,5 @@
 -- `step::commands::moved` meets its contract.
 -- Assumes nothing.
-use borrow.Author.Rules.{rules}
 use Rattle.step.proofs.commands.moved.Goals as goal
 
 pub returns : goal.returns

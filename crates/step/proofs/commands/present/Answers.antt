@@ -1,7 +1,6 @@
 -- `step::commands::present` meets its contract.
 -- Assumes nothing.
 use Rattle.tag.specs.Work.{perform}
-use borrow.Author.Rules.{rules}
 use Rattle.step.proofs.commands.present.Goals as goal
 
 -- the answer is the verdict of the presentation, and its keys are the tag's

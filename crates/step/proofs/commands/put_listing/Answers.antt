@@ -4,7 +4,6 @@ use Prim.Native.Nat.{◌*◌}
 use Rattle.put.proofs.Lists.{tail_room}
 use Rattle.tag.proofs.Listing.{listing_within}
 use Rattle.step.proofs.Room.{body_put, body_fits}
-use borrow.Author.Rules.{rules}
 use native.Mathlib.Omega.{arith}
 use Rattle.step.proofs.commands.put_listing.Goals as goal
 

@@ -3,7 +3,6 @@
 use Rattle.put.proofs.Lists.{tail_room}
 use Rattle.tag.proofs.Listing.{statuses_within}
 use Rattle.step.proofs.Room.{body_put, body_fits}
-use borrow.Author.Rules.{rules}
 use native.Mathlib.Omega.{arith}
 use Rattle.step.proofs.commands.put_statuses.Goals as goal
 

@@ -1,7 +1,6 @@
 -- `step::commands::read_register` meets its contract.
 -- Assumes nothing.
 use Rattle.step.proofs.Acts.{shown}
-use borrow.Author.Rules.{rules}
 use Rattle.step.proofs.commands.read_register.Goals as goal
 
 -- the read gives an error

@@ -1,6 +1,5 @@
 -- `step::commands::stay_quiet` meets its contract.
 -- Assumes nothing.
-use borrow.Author.Rules.{rules}
 use Rattle.step.proofs.commands.stay_quiet.Goals as goal
 
 pub returns : goal.returns

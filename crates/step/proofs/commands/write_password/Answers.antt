@@ -2,7 +2,6 @@
 -- Assumes nothing.
 use Rattle.rights.specs.Passwords.{change_verdict}
 use Rattle.step.proofs.Acts.{password_written}
-use borrow.Author.Rules.{rules}
 use Rattle.step.proofs.commands.write_password.Goals as goal
 
 -- the answer is the verdict of the change, and its keys are the tag's

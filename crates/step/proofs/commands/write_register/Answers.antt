@@ -3,7 +3,6 @@
 use Rattle.rights.specs.Vault.{view_of}
 use Rattle.rights.specs.Registers.{register_verdict}
 use Rattle.step.proofs.Acts.{register_written}
-use borrow.Author.Rules.{rules}
 use Rattle.step.proofs.commands.write_register.Goals as goal
 
 -- the answer is the verdict of the write, and its vault is the tag's

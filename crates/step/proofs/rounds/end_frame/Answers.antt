@@ -1,7 +1,6 @@
 -- `step::rounds::end_frame` meets its contract.
 -- Assumes nothing.
 use Rattle.step.proofs.Acts.{held_gives}
-use borrow.Author.Rules.{rules}
 use native.Mathlib.Omega.{arith}
 use Rattle.step.proofs.rounds.end_frame.Goals as goal
 

@@ -2,7 +2,6 @@
 -- Assumes nothing.
 use mathlib.Core.Bool.{false}
 use Rattle.step.proofs.Acts.{quiet, round_gives}
-use borrow.Author.Rules.{rules}
 use Rattle.step.proofs.rounds.end_round.Goals as goal
 
 pub returns-in-Open : goal.returns-in-Open

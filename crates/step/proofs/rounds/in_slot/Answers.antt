@@ -3,7 +3,6 @@
 use borrow.Author.Tests.{eq-eqb, ne_eqb}
 use mathlib.Core.Path.{refl}
 use Rattle.tag.specs.Inventory.{in_slot}
-use borrow.Author.Rules.{rules}
 use Rattle.step.proofs.rounds.in_slot.Goals as goal
 
 -- the slot is the tag's own: it answers

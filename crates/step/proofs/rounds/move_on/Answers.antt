@@ -7,7 +7,6 @@ use Rattle.record.specs.declared.Round.TheVariants.{None}
 use Rattle.record.specs.Update.{with_round, with_front}
 use Rattle.step.proofs.Acts.{told, quiet}
 use Rattle.tag.specs.Inventory.{slot_of, in_slot, next_slot}
-use borrow.Author.Rules.{rules}
 use Rattle.step.proofs.rounds.move_on.Goals as goal
 
 -- the next slot

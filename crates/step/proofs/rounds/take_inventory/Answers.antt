@@ -3,7 +3,6 @@
 use mathlib.Core.Bool.{false}
 use Rattle.step.proofs.Acts.{shown, told, quiet}
 use Rattle.tag.specs.Inventory.{slot_of, in_slot, inventory_of}
-use borrow.Author.Rules.{rules}
 use Rattle.step.proofs.rounds.take_inventory.Goals as goal
 
 -- not heard: silence
