@@ -2,7 +2,6 @@
 -- Assumes nothing.
 use native.Mathlib.Omega.{arith}
 use Rattle.cabi.proofs.Left.{number_most}
-use borrow.Author.Rules.{rules}
 use Rattle.cabi.proofs.refused.Goals as goal
 
 -- a number is small

@@ -14,7 +14,6 @@ use Rattle.host.proofs.Lent.{blocks_by_end}
 use Rattle.packed.specs.Bytes.{record_rule, is_record}
 use Rattle.cabi.specs.Calls.{event_stays, event_left}
 use Rattle.cabi.proofs.Left.{event_by, event_taken, passing_taken}
-use borrow.Author.Rules.{rules}
 use Rattle.cabi.proofs.uistermo_event.Goals as goal
 
 -- in a memory that is one, with the end of its last area: what was asked of the bytes is whether they are a record

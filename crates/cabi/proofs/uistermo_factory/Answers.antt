@@ -11,7 +11,6 @@ use Rattle.packed.specs.Bytes.{record_of}
 use Rattle.packed.specs.Result.{result_of}
 use Rattle.cabi.specs.Calls.{factory_left}
 use Rattle.cabi.proofs.Left.{fill_by}
-use borrow.Author.Rules.{rules}
 use Rattle.cabi.proofs.uistermo_factory.Goals as goal
 
 -- 1: the memory

@@ -8,7 +8,6 @@ use Rattle.host.proofs.Lent.{has_header, rule_found, fault_found}
 use Rattle.packed.specs.Result.{result_of}
 use Rattle.cabi.specs.Calls.{load_left}
 use Rattle.cabi.proofs.Left.{fill_by, load_refused_lem, load_taken}
-use borrow.Author.Rules.{rules}
 use Rattle.cabi.proofs.uistermo_load.Goals as goal
 
 -- 4: the image

@@ -8,7 +8,6 @@ use Rattle.host.proofs.Lent.{blocks_by_end}
 use Rattle.packed.specs.Bytes.{is_record}
 use Rattle.cabi.specs.Calls.{save_stays, save_left}
 use Rattle.cabi.proofs.Left.{save_by, save_taken}
-use borrow.Author.Rules.{rules}
 use Rattle.cabi.proofs.uistermo_save.Goals as goal
 
 -- 4: the image

@@ -2,7 +2,6 @@
 -- Assumes nothing.
 use native.Mathlib.Omega.{arith}
 use Rattle.cabi.proofs.Left.{number_most, search_by}
-use borrow.Author.Rules.{rules}
 use Rattle.cabi.proofs.uistermo_search.Goals as goal
 
 -- a refusal's number is small
