@@ -13,8 +13,8 @@ LEMMAS = """blocks-of byte-at bytes-of code-byte crc-bytes entries-most fault-of
 load-refused mask-length no-round none-held number-from one-slot round-bytes row-most said-of session-byte state-byte with-areas""".split()
 # The same, of lemmas that port.py has respelled already.
 AGAIN = "field_off held_bytes mask_fits room_most".split()
-# A definition whose head has more than a name before its colon.
-MORE = "after_verdict".split()
+# Names whose heads have more than a name before their colon.
+MORE = "afterVerdict each-address if-both if-one one-result or-one".split()
 
 WORD = re.compile(r"[A-Za-z_◌][\w'◌]*(?:-[\w'◌]+)*")
 HEAD = re.compile(r"^\s*(?:(?:pub|abbrev|unfoldable|opaque)\s+)*((?:[a-z_][\w'\-]*\s+)*[a-z_][\w'\-]*)\s+:(?=\s)(.*)")

@@ -23,7 +23,7 @@ PLANTS = (
     ("who shows a `requires`", promises.PATH, r"`step::answers::put_identity`", "`step::answers::put_identities`"),
     ("a `requires` left out", promises.PATH, r"\n\| `byte_of` \| `at < length s`[^\n]*", ""),
     ("a law that leaves no choice", promises.PATH, r"`one_event` \| every", "`one_load` | every"),
-    ("a law for an equation", promises.PATH, r"(`get_or s at 0` \| )`one-result`", r"\1`one_event`"),
+    ("a law for an equation", promises.PATH, r"(`get_or s at 0` \| )`one_result`", r"\1`one_event`"),
     ("the law that refuses an edit", promises.PATH, r"refused by `first_match_lem`", "refused by `round_came`"),
     ("an edit of a row", promises.PATH, r"`not_complemented`", "`complemented`"),
     ("an edit's crate", promises.PATH, r"`last_byte_left` of `put`", "`last_byte_left` of `image`"),

@@ -63,15 +63,15 @@ def compared(functions, said, contract):
 
 
 def choices(names, functions, laws):
-    """In words, what is wrong with the laws by which a row leaves no choice: `one_put` for `Put`, `one-result` for equations, else of a definition."""
+    """In words, what is wrong with the laws by which a row leaves no choice: `one_put` for `Put`, `one_result` for equations, else of a definition."""
     facts = [" ".join(function.ensures).split() for function in functions]
-    for law, by in (("one_put", ["Put" in fact for fact in facts]), ("one-result", ["≡" in fact and "Put" not in fact for fact in facts])):
+    for law, by in (("one_put", ["Put" in fact for fact in facts]), ("one_result", ["≡" in fact and "Put" not in fact for fact in facts])):
         if laws and all(by) and law not in laws or law == "one_put" and law in laws and not all(by):
             yield f"such a promise leaves no choice by {', '.join(laws)}"
     named = {name for function in functions for _, _, name in names.reach.all(names.reach.cited(function))}
     for law in laws:
         heads = [source.heads[law] for place, source in names.sources.files.items() if place[1] == "proofs" and law in source.heads]
-        if law not in ("one_put", "one-result") and not any(set(IDENTIFIER.findall(head)) & named for head in heads):
+        if law not in ("one_put", "one_result") and not any(set(IDENTIFIER.findall(head)) & named for head in heads):
             yield f"`{law}` says nothing of what the promise names"
 
 

@@ -2,8 +2,7 @@
 // first, from what any reader may learn, and then done.
 #![tactic(auto)]
 
-ghost use Rattle.std.specs.Prelude.{◌≡◌, ◌+◌, ◌*◌, ◌≤◌, length};
-ghost use Rattle.put.specs.If.{if◌then◌else◌};
+ghost use Rattle.std.specs.Prelude.{◌≡◌, ◌+◌, ◌*◌, ◌≤◌, length, if◌then◌else◌};
 ghost use Rattle.put.specs.Put.{Put};
 ghost use Rattle.tag.specs.Work.{block_shown, listing, apply_to_memory, with_block_lock};
 ghost use Rattle.tag.specs.Blocks.{read_verdict, statuses, status_verdict, write_verdict, block_units, lock_verdict};

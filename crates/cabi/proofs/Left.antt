@@ -8,7 +8,7 @@ use mathlib.Core.List.{List}
 use lib.ListN.{length, drop}
 use lib.Dec.{ltb, eqb}
 use borrow.Author.Tests.{le-ltb, ltb-false, eqb-false, ne_eqb}
-use Rattle.rights.proofs.Cases.{if-one}
+use Rattle.rights.proofs.Cases.{if_one}
 use Rattle.record.specs.declared.Kind.{Kind}
 use Rattle.record.specs.declared.Refusal.{Refusal}
 use Rattle.record.specs.declared.Refusal.TheVariants as refusal
@@ -68,9 +68,9 @@ module _ {k : ℕ} {frame r m x r' m' x' : List ℕ} where
 no_frame : (k : ℕ) (frame : List ℕ) → ltb 3 k ≡ false → (k ≡ 3 → ⊥) → NoFrame (event_of (kind_in k) frame)
 no_frame k frame most other =
     let P : Kind → Type 0 = λ x. NoFrame (event_of x frame) in
-    if-one P (eqb k 0) (λ e. on) (λ zero.
-    if-one P (eqb k 1) (λ e. off) (λ one.
-    if-one P (eqb k 2) (λ e. end) (λ two.
+    if_one P (eqb k 0) (λ e. on) (λ zero.
+    if_one P (eqb k 1) (λ e. off) (λ one.
+    if_one P (eqb k 2) (λ e. end) (λ two.
     absurd (other (between k (ltb-false 3 k most) (eqb-false k 0 zero) (eqb-false k 1 one) (eqb-false k 2 two))))))
   where
     between : (k : ℕ) → k ≤ 3 → (k ≡ 0 → ⊥) → (k ≡ 1 → ⊥) → (k ≡ 2 → ⊥) → k ≡ 3

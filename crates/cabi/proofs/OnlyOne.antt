@@ -4,7 +4,7 @@
 use mathlib.Core.Path.{refl}
 use mathlib.Core.List.{List}
 use Prim.Native.Nat.{ℕ}
-use Rattle.put.proofs.Only.{one-result}
+use Rattle.put.proofs.Only.{one_result}
 use Rattle.tag.proofs.OnlyOne.{ExactlyOne}
 use Rattle.cabi.specs.Calls.{EventLeft, event_left, EventLeaves, LoadLeft, FillLeaves, load_left, LoadLeaves, SaveLeft, save_left, SaveLeaves, factory_left, FactoryLeaves}
 use Rattle.cabi.specs.Calls.{SearchLeft, search_left, SearchLeaves}
@@ -14,10 +14,10 @@ one_event k frame r m x = record {
   outcome = event_left k frame r m x;
   meets = record { result = refl; bytes = refl; memory = refl; room = refl };
   only = λ o p g h i. record {
-    result = one-result g.result h.result i;
-    bytes = one-result g.bytes h.bytes i;
-    memory = one-result g.memory h.memory i;
-    room = one-result g.room h.room i;
+    result = one_result g.result h.result i;
+    bytes = one_result g.bytes h.bytes i;
+    memory = one_result g.memory h.memory i;
+    room = one_result g.room h.room i;
   };
 }
 
@@ -26,9 +26,9 @@ one_filled g = record {
   outcome = g;
   meets = record { result = refl; bytes = refl; memory = refl };
   only = λ o p h k i. record {
-    result = one-result h.result k.result i;
-    bytes = one-result h.bytes k.bytes i;
-    memory = one-result h.memory k.memory i;
+    result = one_result h.result k.result i;
+    bytes = one_result h.bytes k.bytes i;
+    memory = one_result h.memory k.memory i;
   };
 }
 
@@ -42,12 +42,12 @@ pub one_save : (r m i : List ℕ) → ExactlyOne (λ (o : SaveLeft). SaveLeaves 
 one_save r m i = record {
   outcome = save_left r m i;
   meets = record { result = refl; image = refl };
-  only = λ o p g h i. record { result = one-result g.result h.result i; image = one-result g.image h.image i };
+  only = λ o p g h i. record { result = one_result g.result h.result i; image = one_result g.image h.image i };
 }
 
 pub one_search : (uids x : List ℕ) → ExactlyOne (λ (o : SearchLeft). SearchLeaves uids x o.list o.result)
 one_search uids x = record {
   outcome = search_left uids x;
   meets = record { result = refl; list = refl };
-  only = λ o p g h i. record { result = one-result g.result h.result i; list = one-result g.list h.list i };
+  only = λ o p g h i. record { result = one_result g.result h.result i; list = one_result g.list h.list i };
 }

@@ -1,7 +1,6 @@
 -- The calls of the C boundary: what each returns, and every byte that it leaves, for every input whatever.
 -- Assumes nothing.
-use Rattle.std.specs.Prelude.{ℕ, ◌+◌, not, ◌≡◌, List, length, ltb, eqb}
-use Rattle.put.specs.If.{if◌then◌else◌}
+use Rattle.std.specs.Prelude.{ℕ, ◌+◌, not, ◌≡◌, List, length, ltb, eqb, if◌then◌else◌}
 use Rattle.record.specs.declared.Kind.{Kind}
 use Rattle.record.specs.declared.Kind.TheVariants.{FieldOn, FieldOff, EndOfFrame, Request}
 use Rattle.tag.specs.Step.{event_of}

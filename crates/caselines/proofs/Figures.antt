@@ -11,7 +11,7 @@ use lib.ListN.{length, get_or, drop, drop_of_length-le}
 use lib.Seq.{drop-cons, take_all}
 use lib.Dec.{leb, ltb, eqb}
 use borrow.Author.Tests.{leb-true, le-leb, lt-leb, eq-eqb, ne_eqb}
-use Rattle.rights.proofs.Cases.{if-one, both}
+use Rattle.rights.proofs.Cases.{if_one, both}
 use Rattle.text.specs.Text.{is_figure}
 use Rattle.text.proofs.Texts.{unlike}
 use Rattle.caselines.specs.declared.form.Number.{Number}
@@ -47,15 +47,15 @@ from_most : (most n : ℕ) (s : List ℕ) → n ≤ most → AtMost most (number
 unfolding number_from
 from_most most n [] h = h
 from_most most n (d ∷ ds) h =
-    if-one (AtMost most) (is_figure d && leb (10 * n + (d - 0x30)) most)
+    if_one (AtMost most) (is_figure d && leb (10 * n + (d - 0x30)) most)
     (λ e. from_most most (10 * n + (d - 0x30)) ds (leb-true _ _ (both (is_figure d) _ e).1))
     (λ e. tt)
 
 pub number_most : (most : ℕ) (s : List ℕ) → AtMost most (number_in most s)
 unfolding number_in
 number_most most s =
-    if-one (AtMost most) (eqb (length s) 0) (λ e. tt)
-    (λ e. if-one (AtMost most) (ltb 1 (length s) && eqb (get_or s 0 0) 0x30) (λ f. tt) (λ f. from_most most 0 s (omega arith)))
+    if_one (AtMost most) (eqb (length s) 0) (λ e. tt)
+    (λ e. if_one (AtMost most) (ltb 1 (length s) && eqb (get_or s 0 0) 0x30) (λ f. tt) (λ f. from_most most 0 s (omega arith)))
 
 pub at_most : (most : ℕ) (s : List ℕ) {r : Number} {n : ℕ} → r ≡ number_in most s → r ≡ Of n → n ≤ most
 at_most most s e f = rw (← e, f) at (number_most most s)

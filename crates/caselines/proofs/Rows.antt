@@ -15,7 +15,7 @@ use Rattle.put.proofs.Written.{Next, sum, room, more, whole}
 use Rattle.text.specs.Text.{decimal_of}
 use Rattle.text.proofs.Pieces.{one_next, begun}
 use Rattle.text.proofs.Texts.{less_or_not, hex_or_most, decimal_length}
-use Rattle.rights.proofs.Cases.{both, if-one}
+use Rattle.rights.proofs.Cases.{both, if_one}
 use Rattle.packed.specs.Bytes.{record_length}
 use Rattle.packed.specs.Result.{refusal_in, place_in, length_in}
 use Rattle.caselines.specs.Limits.{room_most, row_most, uid_length, entries_most}
@@ -67,7 +67,7 @@ letter_range number h =
 column_most : (number place : ℕ) → length (column_text number place) ≤ 23
 unfolding column_text
 column_most number place =
-    if-one (λ (s : List ℕ). length s ≤ 23) (is_lettered number)
+    if_one (λ (s : List ℕ). length s ≤ 23) (is_lettered number)
     (λ q. omega (arith, decimal_length 19 place))
     (λ q. omega (arith, decimal_length 19 number))
 

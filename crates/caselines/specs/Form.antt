@@ -1,7 +1,6 @@
 -- What a line asks for. "A line of no such form answers `?` and changes nothing".
 -- Assumes nothing.
-use Rattle.std.specs.Prelude.{ℕ, suc, ◌+◌, ◌-◌, ◌*◌, ◌%◌, ◌≤◌, Bool, ◌&&◌, List, [], ◌∷◌, length, take, drop, get_or, leb, ltb, eqb}
-use Rattle.put.specs.If.{if◌then◌else◌}
+use Rattle.std.specs.Prelude.{ℕ, suc, ◌+◌, ◌-◌, ◌*◌, ◌%◌, ◌≤◌, Bool, ◌&&◌, List, [], ◌∷◌, length, take, drop, get_or, leb, ltb, eqb, if◌then◌else◌}
 use Rattle.text.specs.Text.{bytes_of_text, same, is_figure, all_digits}
 use Rattle.packed.specs.Bytes.{record_length}
 use Rattle.caselines.specs.declared.form.Number.{Number}

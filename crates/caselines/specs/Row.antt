@@ -1,7 +1,6 @@
 -- The answer line of a call: "`number length answer record memory room`", and of a search: "`number requests list room`".
 -- Assumes nothing.
-use Rattle.std.specs.Prelude.{ℕ, ◌+◌, ◌-◌, ◌/◌, ◌%◌, ◌≤◌, Bool, ◌&&◌, List, [], ◌∷◌, ◌++◌, take, leb, eqb}
-use Rattle.put.specs.If.{if◌then◌else◌}
+use Rattle.std.specs.Prelude.{ℕ, ◌+◌, ◌-◌, ◌/◌, ◌%◌, ◌≤◌, Bool, ◌&&◌, List, [], ◌∷◌, ◌++◌, take, leb, eqb, if◌then◌else◌}
 use Rattle.crc.specs.Crc.{crc_of}
 use Rattle.text.specs.Text.{hex_or, decimal_of}
 use Rattle.packed.specs.Result.{refusal_in, place_in, length_in}

@@ -9,7 +9,7 @@ use lib.Bits.{bit_xor, xor_zero_r, xor_shr, xor_mod}
 use lib.Dec.{eqb}
 use lib.ListN.{get_or, get_or-map}
 use lib.Pow.{pow_pos, shr-shr, field, mod-mod-pow}
-use Rattle.put.specs.If.{if◌then◌else◌}
+use Rattle.std.specs.Prelude.{if◌then◌else◌}
 use Rattle.put.proofs.Xor.{xor_assoc}
 use Rattle.crc.specs.Crc.{crc_bit, crc_bits, crc_byte}
 use Rattle.crc.specs.Halves.{up_from, sixteen_numbers, half_by, byte_by}

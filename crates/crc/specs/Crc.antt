@@ -1,9 +1,8 @@
 -- "CRC per ISO/IEC 15693: reflected polynomial 8408h, start FFFFh, complemented, low byte first."
 -- The polynomial is x^16 + x^12 + x^5 + 1, lowest bit first.
 -- Assumes nothing.
-use Rattle.std.specs.Prelude.{ℕ, zero, suc, ◌-◌, ◌/◌, ◌%◌, List, [], ◌∷◌, eqb}
+use Rattle.std.specs.Prelude.{ℕ, zero, suc, ◌-◌, ◌/◌, ◌%◌, List, [], ◌∷◌, eqb, if◌then◌else◌}
 use Rattle.std.specs.Int.Bits.{bit_xor}
-use Rattle.put.specs.If.{if◌then◌else◌}
 
 -- one bit: a shift right and, where the bit shifted out is 1, the polynomial
 unfoldable pub crc_bit : ℕ → ℕ

@@ -8,7 +8,7 @@ use native.Mathlib.Omega.{arith}
 use lib.ListN.{take, drop}
 use lib.Seq.{get_or-drop}
 use Rattle.put.specs.Number.{number_at}
-use Rattle.rights.proofs.Cases.{if-one}
+use Rattle.rights.proofs.Cases.{if_one}
 use Rattle.tag.specs.Inventory.{afi_flag, mask_at}
 
 -- a number that is read from a place of a list on, and the same from the start of what lies there
@@ -25,4 +25,4 @@ pub no_fields : (end : ℕ) (s : List ℕ) → end < 2 → take (end - 2) s ≡ 
 no_fields end s h = let e : end - 2 ≡ 0 = omega arith in rw e
 
 pub mask_place : (f : List ℕ) → mask_at f ≤ 1
-mask_place f = if-one (λ (n : ℕ). n ≤ 1) (afi_flag f) (λ e. omega arith) (λ e. omega arith)
+mask_place f = if_one (λ (n : ℕ). n ≤ 1) (afi_flag f) (λ e. omega arith) (λ e. omega arith)

@@ -7,7 +7,7 @@ use Prim.Native.Nat.{ℕ, ◌+◌, ◌-◌, ◌≤◌}
 use native.Mathlib.Omega.{arith}
 use lib.ListN.{length, length-take, length-drop}
 use borrow.Author.Tests.{eqb-true, not-false}
-use Rattle.rights.proofs.Cases.{if-one}
+use Rattle.rights.proofs.Cases.{if_one}
 use Rattle.record.specs.declared.Front.{Front}
 use Rattle.tag.specs.declared.Entry.{Entry}
 use Rattle.tag.specs.declared.Heard.{Heard}
@@ -48,9 +48,9 @@ sized_by f w e =
 least_place : (f : List ℕ) → 2 ≤ fields_at f
 unfolding fields_at after_code
 least_place f =
-    if-one (λ (n : ℕ). 2 ≤ n) (address_flag f)
-    (λ e. if-one (λ (n : ℕ). 2 ≤ n + 8) (custom (code_of f)) (λ e. omega arith) (λ e. omega arith))
-    (λ e. if-one (λ (n : ℕ). 2 ≤ n) (custom (code_of f)) (λ e. omega arith) (λ e. omega arith))
+    if_one (λ (n : ℕ). 2 ≤ n) (address_flag f)
+    (λ e. if_one (λ (n : ℕ). 2 ≤ n + 8) (custom (code_of f)) (λ e. omega arith) (λ e. omega arith))
+    (λ e. if_one (λ (n : ℕ). 2 ≤ n) (custom (code_of f)) (λ e. omega arith) (λ e. omega arith))
 
 module _ (t : Front) (f : List ℕ) where
   -- nothing but a frame that passes all checks is heard so

@@ -7,7 +7,7 @@ use Prim.Native.Nat.{ℕ, ◌≤◌}
 use native.Mathlib.Omega.{arith}
 use lib.ListN.{length}
 use borrow.Author.Tests.{ltb-true, ltb-false, not-false}
-use Rattle.rights.proofs.Cases.{if-one, both, neither}
+use Rattle.rights.proofs.Cases.{if_one, both, neither}
 use Rattle.record.specs.declared.Front.{Front}
 use Rattle.tag.specs.Frame.{select_flag, address_flag, code_of, end_of, custom, after_code, fields_at, other_uid, check2, check5, check6}
 
@@ -22,7 +22,7 @@ custom_after f e five = ltb-true 2 (end_of f) (both _ _ (not-false _ (rw e at fi
 after_within : (f : List ℕ) → 4 ≤ length f → check5 f ≡ false → after_code f ≤ end_of f
 unfolding after_code
 after_within f l five =
-    if-one (λ (n : ℕ). n ≤ end_of f) (custom (code_of f)) (λ e. custom_after f e five) (λ e. omega arith)
+    if_one (λ (n : ℕ). n ≤ end_of f) (custom (code_of f)) (λ e. custom_after f e five) (λ e. omega arith)
 
 -- the UID is not missing
 uid_within : (t : Front) (f : List ℕ) → other_uid t f ≡ false → fields_at f ≤ end_of f
@@ -36,4 +36,4 @@ addressed_within t f a six = uid_within t f (neither (select_flag f) (other_uid 
 pub within : (t : Front) (f : List ℕ) → 4 ≤ length f → check5 f ≡ false → check6 t f ≡ false → fields_at f ≤ end_of f
 unfolding fields_at
 within t f l five six =
-    if-one (λ (n : ℕ). n ≤ end_of f) (address_flag f) (λ a. rw a at (addressed_within t f a six)) (λ a. after_within f l five)
+    if_one (λ (n : ℕ). n ≤ end_of f) (address_flag f) (λ a. rw a at (addressed_within t f a six)) (λ a. after_within f l five)

@@ -1,7 +1,6 @@
 -- The later parts of `heard_of`, by which its code is cut in functions.
 -- Assumes nothing.
-use Rattle.std.specs.Prelude.{List, ℕ}
-use Rattle.put.specs.If.{if◌then◌else◌}
+use Rattle.std.specs.Prelude.{List, ℕ, if◌then◌else◌}
 use Rattle.record.specs.declared.Front.{Front}
 use Rattle.tag.specs.declared.Heard.{Heard}
 use Rattle.tag.specs.declared.Heard.TheVariants as heard

@@ -8,8 +8,8 @@ use mathlib.Core.List.{List}
 use lib.Dec.{eqb}
 use lib.ListN.{length}
 use borrow.Author.Tests.{eqb-true}
-use Rattle.put.specs.If.{if◌then◌else◌}
-use Rattle.rights.proofs.Cases.{or-one}
+use Rattle.std.specs.Prelude.{if◌then◌else◌}
+use Rattle.rights.proofs.Cases.{or_one}
 use Rattle.tag.specs.Rules.{blocks_of, last_end}
 use Rattle.record.specs.declared.Tag.{Tag}
 use Rattle.record.specs.declared.Refusal.{Refusal}
@@ -22,21 +22,21 @@ use Rattle.tag.specs.Host.{number_of, place_of, fault_of, is_memory, is_image, E
 -- the blocks of a memory, from its last end
 pub blocks_by_end : (m : List ℕ) → is_memory m ≡ true → blocks_of m ≡ 8 * ((if eqb (length m) 2048 then 63 else 255) + 1)
 blocks_by_end m h =
-    or-one (eqb (length m) 2048) (eqb (length m) 8192) h
+    or_one (eqb (length m) 2048) (eqb (length m) 8192) h
     (λ e. rw (eqb-true (length m) 2048 e))
     (λ e. rw (eqb-true (length m) 8192 e))
 
 -- "E is 63 or 255."
 pub end_by_size : (m : List ℕ) → is_memory m ≡ true → last_end (blocks_of m) ≡ (if eqb (length m) 2048 then 63 else 255)
 end_by_size m h =
-    or-one (eqb (length m) 2048) (eqb (length m) 8192) h
+    or_one (eqb (length m) 2048) (eqb (length m) 8192) h
     (λ e. rw (eqb-true (length m) 2048 e))
     (λ e. rw (eqb-true (length m) 8192 e))
 
 -- an image of a right length is longer than a header
 pub has_header : (i : List ℕ) → is_image i ≡ true → 64 ≤ length i
 has_header i h =
-    or-one (eqb (length i) 2112) (eqb (length i) 8256) h
+    or_one (eqb (length i) 2112) (eqb (length i) 8256) h
     (λ e. omega (arith, eqb-true (length i) 2112 e))
     (λ e. omega (arith, eqb-true (length i) 8256 e))
 

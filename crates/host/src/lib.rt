@@ -4,8 +4,7 @@
 
 pub mod rules; // rules.rt: the record rules
 
-ghost use Rattle.std.specs.Prelude.{◌≡◌, ◌&&◌, ◌||◌, ◌+◌, eqb};
-ghost use Rattle.put.specs.If.{if◌then◌else◌};
+ghost use Rattle.std.specs.Prelude.{◌≡◌, ◌&&◌, ◌||◌, ◌+◌, eqb, if◌then◌else◌};
 ghost use Rattle.tag.specs.Step.{event_of};
 ghost use Rattle.tag.specs.Host.{EventGives, LoadGives, SaveGives, FactoryGives};
 

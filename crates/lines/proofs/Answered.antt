@@ -16,7 +16,7 @@ use Rattle.record.specs.declared.Outcome.{Outcome}
 use Rattle.tag.specs.Rules.{blocks_of, sound}
 use Rattle.tag.specs.Step.{Event}
 use Rattle.tag.specs.Host.{is_memory, least_room, EventGiven, event_given, EventGives}
-use Rattle.rights.proofs.Cases.{if-one}
+use Rattle.rights.proofs.Cases.{if_one}
 use Rattle.lines.specs.declared.form.Form.TheVariants as form
 use Rattle.lines.specs.declared.Progress.{Progress}
 use Rattle.lines.specs.declared.Fed.{Fed}
@@ -46,9 +46,9 @@ Within g = g.length ≤ length g.room
 given_within : (t : Tag) (e : Event) (m x : List ℕ) → Within (event_given t e m x)
 unfolding event_given
 given_within t e m x =
-    if-one Within (not (is_memory m)) (λ h. omega arith) (λ h.
-    if-one Within (ltb (length x) least_room) (λ h. omega arith) (λ h.
-    if-one Within (not (sound (blocks_of m) t)) (λ h. omega arith) (λ h.
+    if_one Within (not (is_memory m)) (λ h. omega arith) (λ h.
+    if_one Within (ltb (length x) least_room) (λ h. omega arith) (λ h.
+    if_one Within (not (sound (blocks_of m) t)) (λ h. omega arith) (λ h.
     simp length-append (omega arith))))
 
 module _ {t : Tag} {e : Event} {m x m' x' : List ℕ} {o : Outcome} (g : EventGives t e m x m' x' o) where

@@ -4,7 +4,7 @@ use mathlib.Core.Path.{refl}
 use mathlib.Core.List.{List, ◌++◌}
 use Prim.Native.Nat.{ℕ, ◌≤◌}
 use lib.ListN.{length, drop}
-use Rattle.put.proofs.Only.{one-result, one_put}
+use Rattle.put.proofs.Only.{one_result, one_put}
 use Rattle.tag.proofs.OnlyOne.{ExactlyOne}
 use Rattle.lines.specs.declared.Fed.{Fed}
 use Rattle.lines.specs.Calls.{Given, Gives}
@@ -22,9 +22,9 @@ one_call g o = record {
   outcome = record { result = record { progress = g.progress; length = length g.text }; memory = g.memory; room = g.room; out = g.text ++ drop (length g.text) o };
   meets = record { progress = refl; memory = refl; room = refl; out = record { count = refl; is = refl } };
   only = λ a b h k i. record {
-    result = record { progress = one-result h.progress k.progress i; length = (one_put h.out k.out).0 i };
-    memory = one-result h.memory k.memory i;
-    room = one-result h.room k.room i;
+    result = record { progress = one_result h.progress k.progress i; length = (one_put h.out k.out).0 i };
+    memory = one_result h.memory k.memory i;
+    room = one_result h.room k.room i;
     out = (one_put h.out k.out).1 i;
   };
 }

@@ -11,8 +11,8 @@ use lib.ListN.{length, take, drop, length-append, length-take, length-drop, leng
 use lib.Seq.{length-take-le, take_all, take_at, take-append-le, take-suc-set}
 use lib.Dec.{ltb, eqb}
 use borrow.Author.Tests.{le-ltb, lt-ltb, lt-leb, eq-eqb, ne_eqb}
-use Rattle.put.specs.If.{if◌then◌else◌}
-use Rattle.rights.proofs.Cases.{if-one}
+use Rattle.std.specs.Prelude.{if◌then◌else◌}
+use Rattle.rights.proofs.Cases.{if_one}
 use Rattle.record.specs.declared.Tag.{Tag}
 use Rattle.tag.specs.Rules.{blocks_of, sound}
 use Rattle.tag.specs.Step.{Event, step}
@@ -135,7 +135,7 @@ byte_stands p b m x line s =
 
 byte_bench : (p : Progress) (b : ℕ) (m : List ℕ) → bench (with_byte p b) m ≡ bench p m
 unfolding with_byte
-byte_bench p b m = if-one (λ (q : Progress). bench q m ≡ bench p m) (ltb p.length 129) (λ e. refl) (λ e. refl)
+byte_bench p b m = if_one (λ (q : Progress). bench q m ≡ bench p m) (ltb p.length 129) (λ e. refl) (λ e. refl)
 
 -- ---- the end, and any input
 

@@ -1,8 +1,7 @@
 -- What the calls give: a byte taken, and the end of the input. The line so far is kept up to 129 bytes: a line of 129 bytes or more has no
 -- form, whatever they are.
 -- Assumes nothing.
-use Rattle.std.specs.Prelude.{ℕ, ◌+◌, ◌≤◌, ◌≡◌, List, [], ◌∷◌, ◌++◌, take, set, replicate, ltb, eqb}
-use Rattle.put.specs.If.{if◌then◌else◌}
+use Rattle.std.specs.Prelude.{ℕ, ◌+◌, ◌≤◌, ◌≡◌, List, [], ◌∷◌, ◌++◌, take, set, replicate, ltb, eqb, if◌then◌else◌}
 use Rattle.put.specs.Put.{Put}
 use Rattle.record.specs.declared.Tag.{Tag}
 use Rattle.tag.specs.Host.{event_given}

@@ -1,7 +1,6 @@
 -- "Each input line is ON, OFF, EOF, or a request in upper-case hex without CRC, 2 to 128 digits, an even number; the program adds the CRC."
 -- Assumes nothing.
-use Rattle.std.specs.Prelude.{ℕ, ◌%◌, Bool, ◌&&◌, List, [], ◌∷◌, ◌++◌, length, leb, eqb}
-use Rattle.put.specs.If.{if◌then◌else◌}
+use Rattle.std.specs.Prelude.{ℕ, ◌%◌, Bool, ◌&&◌, List, [], ◌∷◌, ◌++◌, length, leb, eqb, if◌then◌else◌}
 use Rattle.record.specs.declared.Kind.{Kind}
 use Rattle.record.specs.declared.Kind.TheVariants.{FieldOn, FieldOff, EndOfFrame, Request}
 use Rattle.tag.specs.Step.{event_of, sealed}

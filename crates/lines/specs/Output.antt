@@ -1,7 +1,6 @@
 -- "Session program": the whole output of a whole input.
 -- Assumes nothing.
-use Rattle.std.specs.Prelude.{ℕ, ◌+◌, List, [], ◌∷◌, ◌++◌, replicate, ltb}
-use Rattle.put.specs.If.{if◌then◌else◌}
+use Rattle.std.specs.Prelude.{ℕ, ◌+◌, List, [], ◌∷◌, ◌++◌, replicate, ltb, if◌then◌else◌}
 use Rattle.record.specs.declared.Tag.{Tag}
 use Rattle.tag.specs.Step.{step}
 use Rattle.tag.specs.Image.{factory}

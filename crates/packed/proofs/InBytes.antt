@@ -11,7 +11,7 @@ use borrow.Author.Tests.{eqb-true, lt-leb}
 use Rattle.rights.specs.declared.Session.{Session}
 use Rattle.rights.specs.Passwords.{any_open}
 use Rattle.rights.specs.Registers.{possible}
-use Rattle.rights.proofs.Cases.{and_true, and_false, if-one}
+use Rattle.rights.proofs.Cases.{and_true, and_false, if_one}
 use Rattle.record.specs.declared.State.{State}
 use Rattle.record.specs.declared.Round.{Round}
 use Rattle.record.specs.declared.Held.{Held}
@@ -26,28 +26,28 @@ use Rattle.packed.specs.Parts.{value_part, passing_part}
 pub ready_in : (b : ℕ) → is_ready (state_in b) ≡ eqb b 0
 ready_in b =
     let P : State → Type 0 = λ s. is_ready s ≡ eqb b 0 in
-    if-one P (eqb b 0) (λ zero. sym zero) (λ other. if-one P (eqb b 1) (λ e. sym other) (λ e. sym other))
+    if_one P (eqb b 0) (λ zero. sym zero) (λ other. if_one P (eqb b 1) (λ e. sym other) (λ e. sym other))
 
 pub quiet_in : (b : ℕ) → is_quiet (state_in b) ≡ eqb b 1
 quiet_in b =
     let P : State → Type 0 = λ s. is_quiet s ≡ eqb b 1 in
-    if-one P (eqb b 0) (λ zero. rw (eqb-true b 0 zero)) (λ other. if-one P (eqb b 1) (λ e. sym e) (λ e. sym e))
+    if_one P (eqb b 0) (λ zero. rw (eqb-true b 0 zero)) (λ other. if_one P (eqb b 1) (λ e. sym e) (λ e. sym e))
 
 pub closed_in : (b : ℕ) → not (any_open (session_in b)) ≡ eqb b 0
 closed_in b =
     let P : Session → Type 0 = λ s. not (any_open s) ≡ eqb b 0 in
-    if-one P (eqb b 0) (λ zero. sym zero) (λ other.
-    if-one P (eqb b 1) (λ e. sym other) (λ e.
-    if-one P (eqb b 2) (λ e. sym other) (λ e.
-    if-one P (eqb b 3) (λ e. sym other) (λ e. sym other))))
+    if_one P (eqb b 0) (λ zero. sym zero) (λ other.
+    if_one P (eqb b 1) (λ e. sym other) (λ e.
+    if_one P (eqb b 2) (λ e. sym other) (λ e.
+    if_one P (eqb b 3) (λ e. sym other) (λ e. sym other))))
 
 pub no_round_in : (b slot mask : ℕ) → no_round (round_in b slot mask) ≡ not (eqb b 1)
-no_round_in b slot mask = if-one (λ (r : Round). no_round r ≡ not (eqb b 1)) (eqb b 1) (λ e. rw e) (λ e. rw e)
+no_round_in b slot mask = if_one (λ (r : Round). no_round r ≡ not (eqb b 1)) (eqb b 1) (λ e. rw e) (λ e. rw e)
 
 pub none_held_in : (b code : ℕ) → none_held (held_in b code) ≡ eqb b 0
 none_held_in b code =
     let P : Held → Type 0 = λ h. none_held h ≡ eqb b 0 in
-    if-one P (eqb b 0) (λ zero. sym zero) (λ other. if-one P (eqb b 1) (λ e. sym other) (λ e. sym other))
+    if_one P (eqb b 0) (λ zero. sym zero) (λ other. if_one P (eqb b 1) (λ e. sym other) (λ e. sym other))
 
 -- a held answer that is no error has no code
 pub held_no_error : (b code : ℕ) → (b ≡ 2 → ⊥) → (leb b 1 && eqb code 0) ≡ ((leb b 2 && (eqb b 2 || eqb code 0)) && held_rule (held_in b code))

@@ -2,8 +2,7 @@
 -- (0 Ready, 1 Quiet, 2 Selected), 66 session (0 none, 1 to 4 for passwords 0 to 3), 67 round (0 none, 1 open), 68 its slot, 69 its mask length,
 -- 70 held (0 none, 1 success, 2 error), 71 its code. Bytes without use are 0."
 -- Assumes nothing.
-use Rattle.std.specs.Prelude.{ℕ, Bool, ◌&&◌, ◌||◌, List, [], ◌∷◌, ◌++◌, length, get_or, leb, eqb}
-use Rattle.put.specs.If.{if◌then◌else◌}
+use Rattle.std.specs.Prelude.{ℕ, Bool, ◌&&◌, ◌||◌, List, [], ◌∷◌, ◌++◌, length, get_or, leb, eqb, if◌then◌else◌}
 use Rattle.rights.specs.declared.Session.{Session}
 use Rattle.rights.specs.declared.Session.TheVariants as session
 use Rattle.rights.specs.declared.Verdict.TheVariants as verdict

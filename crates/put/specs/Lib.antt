@@ -1,3 +1,2 @@
-pub mod If
 pub mod Put
 pub mod Number

@@ -28,8 +28,8 @@ pub record Elsewhere (address : ℕ) : Type 0 where
   pub not0_f : address ≡ 0x0F → ⊥
 
 -- what holds at the address of each register, and elsewhere, holds at every address
-pub each-address {κ} : (P : ℕ → Type κ) (address : ℕ) → P 0x04 → P 0x05 → P 0x06 → P 0x07 → P 0x08 → P 0x09 → P 0x0A → P 0x0F → (Elsewhere address → P address) → P address
-each-address P address p04 p05 p06 p07 p08 p09 p0A p0F rest =
+pub each_address {κ} : (P : ℕ → Type κ) (address : ℕ) → P 0x04 → P 0x05 → P 0x06 → P 0x07 → P 0x08 → P 0x09 → P 0x0A → P 0x0F → (Elsewhere address → P address) → P address
+each_address P address p04 p05 p06 p07 p08 p09 p0A p0F rest =
     at 0x04 p04 (λ a. at 0x05 p05 (λ b. at 0x06 p06 (λ c. at 0x07 p07 (λ d. at 0x08 p08 (λ e. at 0x09 p09 (λ f. at 0x0A p0A (λ g. at 0x0F p0F (λ h.
     rest (record { not04 = a; not05 = b; not06 = c; not07 = d; not08 = e; not09 = f; not0_a = g; not0_f = h })))))))))
   where
@@ -83,14 +83,14 @@ unknown_read v n =
 pub read_error : (v : View) (address c : ℕ) → register_at v address ≡ read.Error c → c ≡ 0x10
 unfolding register_at
 read_error v address c =
-    each-address (λ (a : ℕ). register_at v a ≡ read.Error c → c ≡ 0x10) address
+    each_address (λ (a : ℕ). register_at v a ≡ read.Error c → c ≡ 0x10) address
     (λ h. cc) (λ h. cc) (λ h. cc) (λ h. cc) (λ h. cc) (λ h. cc) (λ h. cc) (λ h. cc)
     (λ n h. cc (unknown_read v n))
 
 pub same_addresses : (v : View) (address : ℕ) → is_value (register_at v address) ≡ is_register address
 unfolding register_at is_register
 same_addresses v address =
-    each-address (λ (a : ℕ). is_value (register_at v a) ≡ is_register a) address refl refl refl refl refl refl refl refl
+    each_address (λ (a : ℕ). is_value (register_at v a) ≡ is_register a) address refl refl refl refl refl refl refl refl
     (λ n. rw (no_register address n, unknown_read v n))
 
 -- ---- a register that is written
@@ -114,7 +114,7 @@ module _ (v : Vault) (x : ℕ) where
   pub read_back : (e address : ℕ) → is_register address ≡ true → allows e v.areas address x ≡ true → Now address address ≡ read.Value x
   unfolding register_at with_register allows is_register
   read_back e address =
-      each-address (λ (a : ℕ). is_register a ≡ true → allows e v.areas a x ≡ true → Now a a ≡ read.Value x) address
+      each_address (λ (a : ℕ). is_register a ≡ true → allows e v.areas a x ≡ true → Now a a ≡ read.Value x) address
       (λ r h. refl) (λ r h. refl) (λ r h. refl) (λ r h. refl) (λ r h. refl) (λ r h. refl) (λ r h. refl) (λ r h. bit_read x h)
       (λ n r h. let z : ◌≡◌ {A = ℕ} 0 1 = cc (no_register address n) in absurd (omega arith))
 
@@ -122,7 +122,7 @@ module _ (v : Vault) (x : ℕ) where
   pub others_stay : (address other : ℕ) → (other ≡ address → ⊥) → Now address other ≡ register_at (view_of v) other
   unfolding register_at with_register
   others_stay address other =
-      each-address (λ (a : ℕ). (other ≡ a → ⊥) → Now a other ≡ register_at (view_of v) other) address
+      each_address (λ (a : ℕ). (other ≡ a → ⊥) → Now a other ≡ register_at (view_of v) other) address
       (λ d. rw (ne_eqb _ _ d)) (λ d. rw (ne_eqb _ _ d)) (λ d. rw (ne_eqb _ _ d)) (λ d. rw (ne_eqb _ _ d))
       (λ d. rw (ne_eqb _ _ d)) (λ d. rw (ne_eqb _ _ d)) (λ d. rw (ne_eqb _ _ d)) (λ d. rw (ne_eqb _ _ d))
       (λ n d. rw (nothing_written n))

@@ -5,7 +5,7 @@ use Prim.Native.Nat.{ℕ}
 use native.Mathlib.Omega.{arith}
 use mathlib.Core.Bool.{Bool, true, false, not, ◌&&◌, ◌||◌}
 use borrow.Author.Tests.{not-true, not-false}
-use Rattle.put.specs.If.{if◌then◌else◌}
+use Rattle.std.specs.Prelude.{if◌then◌else◌}
 
 pub or_true : (b : Bool) → (b || true) ≡ true
 or_true true = refl
@@ -24,14 +24,14 @@ not_or true = refl
 not_or false = refl
 
 -- an `if`, by its two cases
-pub if-one {ℓ κ} : {A : Type ℓ} (P : A → Type κ) (c : Bool) {x y : A} → (c ≡ true → P x) → (c ≡ false → P y) → P (if c then x else y)
-if-one P true p q = p refl
-if-one P false p q = q refl
+pub if_one {κ} : {A : Type 0} (P : A → Type κ) (c : Bool) {x y : A} → (c ≡ true → P x) → (c ≡ false → P y) → P (if c then x else y)
+if_one P true p q = p refl
+if_one P false p q = q refl
 
 -- and one test in two of them
-pub if-both {ℓ κ} : {A : Type ℓ} (R : A → A → Type κ) (c : Bool) {x y x' y' : A} → R x x' → R y y' → R (if c then x else y) (if c then x' else y')
-if-both R true p q = p
-if-both R false p q = q
+pub if_both {κ} : {A : Type 0} (R : A → A → Type κ) (c : Bool) {x y x' y' : A} → R x x' → R y y' → R (if c then x else y) (if c then x' else y')
+if_both R true p q = p
+if_both R false p q = q
 
 pub else_false : (t : Bool) {o : Bool} → o ≡ false → (if t then false else o) ≡ false
 else_false true e = refl
@@ -46,9 +46,9 @@ pub join : {a b : Bool} → a ≡ true → b ≡ true → (a && b) ≡ true
 join p q = rw (p, q)
 
 -- a disjunction, by its two cases
-pub or-one {κ} : {P : Type κ} (a b : Bool) → (a || b) ≡ true → (a ≡ true → P) → (b ≡ true → P) → P
-or-one true b e p q = p refl
-or-one false b e p q = q e
+pub or_one {κ} : {P : Type κ} (a b : Bool) → (a || b) ≡ true → (a ≡ true → P) → (b ≡ true → P) → P
+or_one true b e p q = p refl
+or_one false b e p q = q e
 
 -- and one that fails
 pub neither : (a b : Bool) → (a || b) ≡ false → (a ≡ false) × (b ≡ false)

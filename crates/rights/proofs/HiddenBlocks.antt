@@ -7,7 +7,7 @@ use Prim.Native.Nat.{ℕ, suc, ◌+◌, ◌≤◌, ◌<◌}
 use native.Mathlib.Omega.{arith}
 use lib.Dec.{leb, ltb, eqb}
 use borrow.Author.Tests.{leb-true, leb-false, ltb-false, le-leb, le-ltb, eq-eqb, ne_eqb, eqb-true, not-false}
-use Rattle.put.specs.If.{if◌then◌else◌}
+use Rattle.std.specs.Prelude.{if◌then◌else◌}
 use Rattle.rights.specs.declared.Keys.{Keys}
 use Rattle.rights.specs.declared.Session.{Session}
 use Rattle.rights.specs.declared.Session.TheVariants.{None}
@@ -17,7 +17,7 @@ use Rattle.rights.specs.declared.passwords.Presentation.{Presentation}
 use Rattle.rights.specs.Passwords.{session_of, is_open, password_of, present_of}
 use Rattle.rights.specs.Blocks.{area_of, register_of, named, protection, serves, may_read, readable_at, writable_at, locked_at, barred_at, any_barred, hidden_by, in_session, OnlyThis, OnlyThese}
 use Rattle.rights.specs.Registers.{permits, register_verdict}
-use Rattle.rights.proofs.Cases.{if-one, if-both, both, join}
+use Rattle.rights.proofs.Cases.{if_one, if_both, both, join}
 use Rattle.rights.proofs.Borders.{hidden_in, hidden_unreadable, hidden_unwritable}
 use Rattle.rights.proofs.Sessions.{opens_alone}
 use Rattle.rights.proofs.Possible.{done_allowed}
@@ -134,8 +134,8 @@ module _ (guarding : ℕ → Bool) (k : Keys)
   pub present_shut : Stays (present_of k n w)
   unfolding present_of
   present_shut =
-      if-one Stays (ltb 3 n) (λ over. shut) (λ within.
-      if-one Stays (not (eqb (password_of k n) w))
+      if_one Stays (ltb 3 n) (λ over. shut) (λ within.
+      if_one Stays (not (eqb (password_of k n) w))
       (λ wrong c g. none_open c)
       (λ right c g. go (not-false _ right) c g (ltb-false 3 n within) (eqb c n) refl))
     where
@@ -157,8 +157,8 @@ pub present_same : (k l : Keys) (n w : ℕ) → k.session ≡ l.session → eqb 
 unfolding present_of
 present_same k l n w s e =
     rw e
-    (if-both SamePresented (ltb 3 n) (record { answer = refl; session = s })
-    (if-both SamePresented (not (eqb (password_of l n) w)) (record { answer = refl; session = refl }) (record { answer = refl; session = refl })))
+    (if_both SamePresented (ltb 3 n) (record { answer = refl; session = s })
+    (if_both SamePresented (not (eqb (password_of l n) w)) (record { answer = refl; session = refl }) (record { answer = refl; session = refl })))
 
 -- a register is written only in the configuration session
 pub written_open : (e : ℕ) (v : View) (address x : ℕ) → register_verdict e v address x ≡ Success → is_open v.session 0 ≡ true

@@ -6,7 +6,7 @@ use Prim.Native.Nat.{ℕ}
 use native.Mathlib.Omega.{arith}
 use lib.Dec.{leb, ltb, eqb}
 use borrow.Author.Tests.{eqb-true, leb-true, ltb-true, le-leb, eq-eqb, ne_eqb}
-use Rattle.put.specs.If.{if◌then◌else◌}
+use Rattle.std.specs.Prelude.{if◌then◌else◌}
 use Rattle.rights.specs.declared.Areas.{Areas}
 use Rattle.rights.specs.declared.Vault.{Vault}
 use Rattle.rights.specs.declared.View.{View}
@@ -16,7 +16,7 @@ use Rattle.rights.specs.Vault.{view_of}
 use Rattle.rights.specs.Registers.{is_register, allows, permits, register_verdict, with_register, register_rule, end_rule, pair_rule, possible}
 use Rattle.rights.specs.Verdict.{after_verdict}
 use Rattle.rights.proofs.Cases.{or_true, not_or, both, join}
-use Rattle.rights.proofs.Addresses.{each-address, nothing_written}
+use Rattle.rights.proofs.Addresses.{each_address, nothing_written}
 
 -- the rules, one by one
 pub record Registers (f g h i : ℕ) : Type 0 where
@@ -143,7 +143,7 @@ module _ (e : ℕ) (v : Vault) (x : ℕ) (p : Possible e v.areas) where
 
   keeps : (address : ℕ) → Keeps address
   keeps address =
-      each-address Keeps address rfa1ss enda1 rfa2ss enda2 rfa3ss enda3 rfa4ss lockcfg (λ n h. rw (nothing_written v x n) p)
+      each_address Keeps address rfa1ss enda1 rfa2ss enda2 rfa3ss enda3 rfa4ss lockcfg (λ n h. rw (nothing_written v x n) p)
 
 -- a write is done only where it is permitted and allowed
 pub done_allowed : (e : ℕ) (v : View) (address x : ℕ) → register_verdict e v address x ≡ Success → (permits v ≡ true) × (allows e v.areas address x ≡ true)

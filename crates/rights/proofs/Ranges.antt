@@ -15,11 +15,11 @@ use Rattle.rights.specs.declared.registers.RegisterRead.{RegisterRead}
 use Rattle.rights.specs.declared.registers.RegisterRead.TheVariants as read
 use Rattle.rights.specs.Blocks.{barred_at, status_at}
 use Rattle.rights.specs.Registers.{one_if, registers_of, register_at, with_areas, with_register}
-use Rattle.rights.proofs.Cases.{if-one}
+use Rattle.rights.proofs.Cases.{if_one}
 
 pub status_byte : (v : View) (b : ℕ) → status_at v b < 256
 unfolding status_at
-status_byte v b = if-one (λ (x : ℕ). x < 256) (barred_at v b) (λ e. omega arith) (λ e. omega arith)
+status_byte v b = if_one (λ (x : ℕ). x < 256) (barred_at v b) (λ e. omega arith) (λ e. omega arith)
 
 pub at_most_one : (b : Bool) → one_if b ≤ 1
 at_most_one true = omega arith
@@ -37,14 +37,14 @@ pub read_bytes : (v : View) (address : ℕ) → Bytes (registers_of v.areas) →
 unfolding register_at
 read_bytes v address (more a (more b (more c (more d (more f (more g (more h none))))))) =
     let bit : one_if v.lockcfg < 256 = omega (arith, at_most_one v.lockcfg) in
-    if-one Told (eqb address 0x04) (λ e. more a none) (λ e.
-    if-one Told (eqb address 0x05) (λ e. more b none) (λ e.
-    if-one Told (eqb address 0x06) (λ e. more c none) (λ e.
-    if-one Told (eqb address 0x07) (λ e. more d none) (λ e.
-    if-one Told (eqb address 0x08) (λ e. more f none) (λ e.
-    if-one Told (eqb address 0x09) (λ e. more g none) (λ e.
-    if-one Told (eqb address 0x0A) (λ e. more h none) (λ e.
-    if-one Told (eqb address 0x0F) (λ e. more bit none) (λ e. none))))))))
+    if_one Told (eqb address 0x04) (λ e. more a none) (λ e.
+    if_one Told (eqb address 0x05) (λ e. more b none) (λ e.
+    if_one Told (eqb address 0x06) (λ e. more c none) (λ e.
+    if_one Told (eqb address 0x07) (λ e. more d none) (λ e.
+    if_one Told (eqb address 0x08) (λ e. more f none) (λ e.
+    if_one Told (eqb address 0x09) (λ e. more g none) (λ e.
+    if_one Told (eqb address 0x0A) (λ e. more h none) (λ e.
+    if_one Told (eqb address 0x0F) (λ e. more bit none) (λ e. none))))))))
 
 -- registers are bytes; "four 64-bit passwords"
 pub record RangedVault (v : Vault) : Type 0 where
@@ -61,11 +61,11 @@ register_ranged v address x l r = go r.bytes
 
     go : Bytes (registers_of v.areas) → RangedVault (with_register v address x)
     go (more a (more b (more c (more d (more f (more g (more h none))))))) =
-        if-one RangedVault (eqb address 0x04) (λ e. with_areas_lem _ (more l (more b (more c (more d (more f (more g (more h none)))))))) (λ e.
-        if-one RangedVault (eqb address 0x05) (λ e. with_areas_lem _ (more a (more l (more c (more d (more f (more g (more h none)))))))) (λ e.
-        if-one RangedVault (eqb address 0x06) (λ e. with_areas_lem _ (more a (more b (more l (more d (more f (more g (more h none)))))))) (λ e.
-        if-one RangedVault (eqb address 0x07) (λ e. with_areas_lem _ (more a (more b (more c (more l (more f (more g (more h none)))))))) (λ e.
-        if-one RangedVault (eqb address 0x08) (λ e. with_areas_lem _ (more a (more b (more c (more d (more l (more g (more h none)))))))) (λ e.
-        if-one RangedVault (eqb address 0x09) (λ e. with_areas_lem _ (more a (more b (more c (more d (more f (more l (more h none)))))))) (λ e.
-        if-one RangedVault (eqb address 0x0A) (λ e. with_areas_lem _ (more a (more b (more c (more d (more f (more g (more l none)))))))) (λ e.
-        if-one RangedVault (eqb address 0x0F) (λ e. record { bytes = r.bytes; four = r.four; passwords = r.passwords }) (λ e. r))))))))
+        if_one RangedVault (eqb address 0x04) (λ e. with_areas_lem _ (more l (more b (more c (more d (more f (more g (more h none)))))))) (λ e.
+        if_one RangedVault (eqb address 0x05) (λ e. with_areas_lem _ (more a (more l (more c (more d (more f (more g (more h none)))))))) (λ e.
+        if_one RangedVault (eqb address 0x06) (λ e. with_areas_lem _ (more a (more b (more l (more d (more f (more g (more h none)))))))) (λ e.
+        if_one RangedVault (eqb address 0x07) (λ e. with_areas_lem _ (more a (more b (more c (more l (more f (more g (more h none)))))))) (λ e.
+        if_one RangedVault (eqb address 0x08) (λ e. with_areas_lem _ (more a (more b (more c (more d (more l (more g (more h none)))))))) (λ e.
+        if_one RangedVault (eqb address 0x09) (λ e. with_areas_lem _ (more a (more b (more c (more d (more f (more l (more h none)))))))) (λ e.
+        if_one RangedVault (eqb address 0x0A) (λ e. with_areas_lem _ (more a (more b (more c (more d (more f (more g (more l none)))))))) (λ e.
+        if_one RangedVault (eqb address 0x0F) (λ e. record { bytes = r.bytes; four = r.four; passwords = r.passwords }) (λ e. r))))))))

@@ -9,7 +9,7 @@ use lib.Dec.{ltb, eqb}
 use lib.ListN.{length}
 use lib.Seq.{get_or-set_same, get_or-set_other}
 use borrow.Author.Tests.{le-ltb, lt-ltb, ltb-false, ne_eqb, eq-eqb}
-use Rattle.put.specs.If.{if◌then◌else◌}
+use Rattle.std.specs.Prelude.{if◌then◌else◌}
 use Rattle.rights.specs.declared.Keys.{Keys}
 use Rattle.rights.specs.declared.Session.{Session}
 use Rattle.rights.specs.declared.Session.TheVariants.{None}
@@ -18,7 +18,7 @@ use Rattle.rights.specs.declared.Verdict.TheVariants.{Success, Error}
 use Rattle.rights.specs.declared.passwords.Presentation.{Presentation}
 use Rattle.rights.specs.Passwords.{session_of, is_open, password_of, with_session, with_password, present_of, change_verdict}
 use Rattle.rights.specs.Verdict.{after_verdict}
-use Rattle.rights.proofs.Cases.{if-one}
+use Rattle.rights.proofs.Cases.{if_one}
 
 -- "number over 3 is 10h, sessions unchanged"
 pub over_presented : (k : Keys) (n w : ℕ) → 3 < n → present_of k n w ≡ record { answer = Error 0x10; keys = k }
@@ -47,8 +47,8 @@ opens_alone (suc (suc (suc (suc n)))) m h = absurd (omega arith)
 pub present_keeps : (k : Keys) (n w : ℕ) → (present_of k n w).keys.passwords ≡ k.passwords
 unfolding present_of
 present_keeps k n w =
-    if-one (λ (p : Presentation). p.keys.passwords ≡ k.passwords) (ltb 3 n) (λ e. refl)
-    (λ e. if-one (λ (p : Presentation). p.keys.passwords ≡ k.passwords) (not (eqb (password_of k n) w)) (λ e. refl) (λ e. refl))
+    if_one (λ (p : Presentation). p.keys.passwords ≡ k.passwords) (ltb 3 n) (λ e. refl)
+    (λ e. if_one (λ (p : Presentation). p.keys.passwords ≡ k.passwords) (not (eqb (password_of k n) w)) (λ e. refl) (λ e. refl))
 
 -- changing password n leaves the others, and the session, whatever the verdict
 pub change_leaves : (d : Verdict) (k : Keys) (n w m : ℕ) → m ≢ n → password_of (after_verdict d k (with_password k n w)) m ≡ password_of k m

@@ -1,7 +1,6 @@
 -- "Passwords and registers", the passwords: presenting and changing one.
 -- Assumes nothing.
-use Rattle.std.specs.Prelude.{ℕ, Bool, true, false, not, get_or, set, ltb, eqb}
-use Rattle.put.specs.If.{if◌then◌else◌}
+use Rattle.std.specs.Prelude.{ℕ, Bool, true, false, not, get_or, set, ltb, eqb, if◌then◌else◌}
 use Rattle.rights.specs.declared.Session.{Session}
 use Rattle.rights.specs.declared.Session.TheVariants.{None, Configuration, User1, User2, User3}
 use Rattle.rights.specs.declared.Keys.{Keys}

@@ -6,8 +6,8 @@ use mathlib.Core.List.{List}
 use Prim.Native.Nat.{ℕ, ◌+◌, ◌*◌}
 use native.Mathlib.Omega.{arith}
 use lib.Dec.{eqb}
-use Rattle.put.specs.If.{if◌then◌else◌}
-use Rattle.rights.proofs.Cases.{if-one}
+use Rattle.std.specs.Prelude.{if◌then◌else◌}
+use Rattle.rights.proofs.Cases.{if_one}
 use Rattle.tag.specs.declared.Command.TheVariants as command
 use Rattle.tag.specs.declared.Entry.{Entry}
 use Rattle.tag.specs.Table.{entry_of, more_of, head_of, length_of}
@@ -48,7 +48,7 @@ write_whole fields code =
     (record { is = λ h. no (cc) })))))))))))))))))))))))
   where
     row : (n : ℕ) {x y : Entry} → Whole fields x → Whole fields y → Whole fields (if eqb code n then x else y)
-    row n p q = if-one (Whole fields) (eqb code n) (λ e. p) (λ e. q)
+    row n p q = if_one (Whole fields) (eqb code n) (λ e. p) (λ e. q)
 
     no : {a b : ℕ} → ◌≡◌ {A = ℕ} 0 1 → a ≡ b
     no z = absurd (omega arith)

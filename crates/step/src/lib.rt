@@ -6,9 +6,8 @@ mod answers; // answers.rt: answers as they are written, at once or held
 mod commands; // commands.rt: what each command does
 mod rounds; // rounds.rt: Inventory and its rounds, the end of a frame
 
-ghost use Rattle.std.specs.Prelude.{◌≡◌, true, ◌≤◌, length};
+ghost use Rattle.std.specs.Prelude.{◌≡◌, true, ◌≤◌, length, if◌then◌else◌};
 ghost use Rattle.rights.specs.Vault.{view_of};
-ghost use Rattle.put.specs.If.{if◌then◌else◌};
 ghost use Rattle.record.specs.Update.{with_front, passing_cleared, sessionless};
 ghost use Rattle.tag.specs.Rules.{blocks_of};
 ghost use Rattle.tag.specs.Step.{dropped, event_of, frame_of, performed, step};

@@ -15,7 +15,7 @@ use Rattle.rights.specs.declared.View.{View}
 use Rattle.rights.specs.declared.Verdict.TheVariants.{Success, Error}
 use Rattle.rights.specs.Vault.{view_of}
 use Rattle.rights.specs.Registers.{registers_of}
-use Rattle.rights.proofs.Cases.{if-one}
+use Rattle.rights.proofs.Cases.{if_one}
 use Rattle.rights.proofs.Ranges.{status_byte, at_most_one, read_bytes}
 use Rattle.record.specs.declared.Front.{Front}
 use Rattle.record.specs.declared.Tag.{Tag}
@@ -52,7 +52,7 @@ statuses_bytes : (v : View) (limit b n : ℕ) → Bytes (statuses v limit b n)
 unfolding statuses
 statuses_bytes v limit b zero = none
 statuses_bytes v limit b (suc n) =
-    if-one Bytes (ltb b limit) (λ e. more (status_byte v b) (statuses_bytes v limit (b + 1) n)) (λ e. none)
+    if_one Bytes (ltb b limit) (λ e. more (status_byte v b) (statuses_bytes v limit (b + 1) n)) (λ e. none)
 
 blocks_ranged : (b n : ℕ) {bytes : List ℕ} → Bytes bytes → RangedUnits (block_units b n bytes)
 unfolding block_units
@@ -88,7 +88,7 @@ inventory_bytes {t} r = more r.dsfid (bytes_of_lem 8 t.uid)
 slot_ranged : {t : Front} (slot mask : ℕ) → RangedFront t → RangedAct (says (in_slot t slot mask))
 unfolding in_slot
 slot_ranged {t} slot mask r =
-    if-one (λ (a : Answer). RangedAct (says a)) (eqb (slot_of t mask) slot) (λ e. says_in (inventory_bytes r)) (λ e. says_in none)
+    if_one (λ (a : Answer). RangedAct (says a)) (eqb (slot_of t mask) slot) (λ e. says_in (inventory_bytes r)) (λ e. says_in none)
 
 dropped_ranged : {t : Front} → RangedFront t → RangedFront (dropped t)
 dropped_ranged r = held_ranged (round_ranged r round.None none) held.None none
@@ -188,7 +188,7 @@ unfolding header_of
 header_bytes size {t} r =
     let f = t.front in
     let v = t.vault in
-    let mark : mark_of size < 256 = if-one (λ (n : ℕ). n < 256) (eqb size 2048) (λ e. omega arith) (λ e. omega arith) in
+    let mark : mark_of size < 256 = if_one (λ (n : ℕ). n < 256) (eqb size 2048) (λ e. omega arith) (λ e. omega arith) in
     let locks : lock_byte t < 256 =
     omega (arith, at_most_one v.lock0, at_most_one v.lock1, at_most_one f.lockafi, at_most_one f.lockdsfid, at_most_one v.lockcfg) in
     let password : (n : ℕ) → Bytes (bytes_of 8 (get_or v.keys.passwords n 0)) = λ n. bytes_of_lem 8 (get_or v.keys.passwords n 0) in

@@ -9,7 +9,7 @@ use mathlib.Core.List.{List}
 use lib.ListN.{length, drop, get_or, length-drop, length-replicate, get_or-replicate}
 use lib.Dec.{ltb}
 use borrow.Author.Tests.{not-true, not-false}
-use Rattle.rights.proofs.Cases.{if-one}
+use Rattle.rights.proofs.Cases.{if_one}
 use Rattle.record.specs.declared.Tag.{Tag}
 use Rattle.record.specs.declared.Outcome.{Outcome}
 use Rattle.tag.specs.Rules.{blocks_of, sound}
@@ -31,9 +31,9 @@ module _ (t : Tag) where
 
       given : After (event_given t e m x)
       given =
-          if-one After (not (is_memory m)) (λ q. h) (λ q.
-          if-one After (ltb (length x) least_room) (λ q. h) (λ q.
-          if-one After (not (sound (blocks_of m) t)) (λ q. h) (λ q. stays_sound t m e h)))
+          if_one After (not (is_memory m)) (λ q. h) (λ q.
+          if_one After (ltb (length x) least_room) (λ q. h) (λ q.
+          if_one After (not (sound (blocks_of m) t)) (λ q. h) (λ q. stays_sound t m e h)))
 
   pub load_sound : (i m : List ℕ) {m' : List ℕ} {r : Outcome} → LoadGives t i m m' r → sound (blocks_of m) t ≡ true → sound (blocks_of m') r.tag ≡ true
   unfolding load_given
@@ -50,9 +50,9 @@ module _ (t : Tag) where
 
       given : After (load_given t i m)
       given =
-          if-one After (not (is_image i)) (λ q. h) (λ q.
-          if-one After (not (fits_image m i)) (λ q. h) (λ fits.
-          if-one After (not (header_rule (blocks_of m) i)) (λ q. h) (λ rule. loaded fits rule)))
+          if_one After (not (is_image i)) (λ q. h) (λ q.
+          if_one After (not (fits_image m i)) (λ q. h) (λ fits.
+          if_one After (not (header_rule (blocks_of m) i)) (λ q. h) (λ rule. loaded fits rule)))
 
   pub save_keeps : (m i : List ℕ) {i' : List ℕ} {r : Outcome} → SaveGives t m i i' r → r.tag ≡ t
   unfolding save_given
@@ -63,9 +63,9 @@ module _ (t : Tag) where
 
       given : After (save_given t m i)
       given =
-          if-one After (not (is_image i)) (λ q. refl) (λ q.
-          if-one After (not (fits_image m i)) (λ q. refl) (λ q.
-          if-one After (not (sound (blocks_of m) t)) (λ q. refl) (λ q. refl)))
+          if_one After (not (is_image i)) (λ q. refl) (λ q.
+          if_one After (not (fits_image m i)) (λ q. refl) (λ q.
+          if_one After (not (sound (blocks_of m) t)) (λ q. refl) (λ q. refl)))
 
   -- "A factory tag" is sound, whatever the record was; where none is made, the record is as sound as it was
   pub made_sound : (uid : ℕ) (m : List ℕ) {m' : List ℕ} {r : Outcome} → FactoryGives t uid m m' r → (is_memory m ≡ false → sound (blocks_of m) t ≡ true)
@@ -77,7 +77,7 @@ module _ (t : Tag) where
       After o = sound (blocks_of o.memory) o.tag ≡ true
 
       given : After (factory_given t uid m)
-      given = if-one After (not (is_memory m)) (λ q. h (not-true _ q)) (λ q. rw (length-replicate {A = ℕ} (length m) 0) (factory_sound (blocks_of m) uid))
+      given = if_one After (not (is_memory m)) (λ q. h (not-true _ q)) (λ q. rw (length-replicate {A = ℕ} (length m) 0) (factory_sound (blocks_of m) uid))
 
   -- "A factory tag has zero memory": every byte of the memory that was lent is 0, whatever it was
   pub factory_zero : (uid : ℕ) (m : List ℕ) {m' : List ℕ} {r : Outcome} → FactoryGives t uid m m' r → is_memory m ≡ true

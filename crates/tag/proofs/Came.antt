@@ -17,7 +17,7 @@ use Rattle.rights.specs.declared.registers.RegisterRead.TheVariants as read
 use Rattle.rights.specs.Passwords.{is_open, change_verdict}
 use Rattle.rights.specs.Blocks.{any_barred}
 use Rattle.rights.specs.Registers.{register_at, register_verdict}
-use Rattle.rights.proofs.Cases.{if-one}
+use Rattle.rights.proofs.Cases.{if_one}
 use Rattle.rights.proofs.Sessions.{change_open}
 use Rattle.rights.proofs.Addresses.{read_error}
 use Rattle.record.specs.declared.Front.{Front}
@@ -58,16 +58,16 @@ pub hears : (t : Front) (f : List ℕ) → Hears t f (heard_of t f)
 unfolding heard_of is_code
 hears t f =
     let H = Hears t f in
-    if-one H (check2 f) (λ e. silent) (λ two.
-    if-one H (check3 f) (λ e. silent) (λ three.
-    if-one H (check4 f) (λ e. silent) (λ four.
-    if-one H (flag_bit 3 f) (λ e. inventory) (λ e.
-    if-one H (check5 f) (λ e. silent) (λ five.
-    if-one H (check6 t f) (λ e. if-one H (select_of_another t f) (λ e. another) (λ e. silent)) (λ six.
-    if-one H (check7 f) (λ e. wrong 0x02 refl) (λ seven.
-    if-one H (check8 f) (λ e. silent) (λ eight.
-    if-one H (check9 f) (λ e. silent) (λ nine.
-    if-one H (check10 f) (λ e. wrong 0x03 refl) (λ ten.
+    if_one H (check2 f) (λ e. silent) (λ two.
+    if_one H (check3 f) (λ e. silent) (λ three.
+    if_one H (check4 f) (λ e. silent) (λ four.
+    if_one H (flag_bit 3 f) (λ e. inventory) (λ e.
+    if_one H (check5 f) (λ e. silent) (λ five.
+    if_one H (check6 t f) (λ e. if_one H (select_of_another t f) (λ e. another) (λ e. silent)) (λ six.
+    if_one H (check7 f) (λ e. wrong 0x02 refl) (λ seven.
+    if_one H (check8 f) (λ e. silent) (λ eight.
+    if_one H (check9 f) (λ e. silent) (λ nine.
+    if_one H (check10 f) (λ e. wrong 0x03 refl) (λ ten.
     passes (record { two = two; three = three; four = four; five = five; six = six; seven = seven; eight = eight; nine = nine; ten = ten })))))))))))
 
 -- ---- a command, on a tag of so many blocks, with such fields
@@ -193,8 +193,8 @@ module _ (t : Front) (v : View) (blocks : ℕ) where
   frame_came f silent = ignored
   frame_came f another = deselected
   frame_came f inventory =
-      if-one (InField t v blocks (request f)) (unheard (dropped t) f) (λ u. ignored) (λ u.
-      if-one (InField t v blocks (request f)) (one_slot f) (λ o. found) (λ o. opened u o))
+      if_one (InField t v blocks (request f)) (unheard (dropped t) f) (λ u. ignored) (λ u.
+      if_one (InField t v blocks (request f)) (one_slot f) (λ o. found) (λ o. opened u o))
   frame_came f (wrong c h) = refused c h
   frame_came f (passes p) = done p (asked (dropped t) v blocks (entry_of (code_of f)) (option_flag f) _ (entry_of (code_of f)).command)
 
@@ -202,7 +202,7 @@ module _ (t : Front) (v : View) (blocks : ℕ) where
   unfolding next_slot
   round_came round.None h = unmoved
   round_came (round.Open slot mask) h =
-      if-one (InField t v blocks end_of_frame) (ltb slot 15) (λ e. moved slot mask h (ltb-true slot 15 e)) (λ e. closed)
+      if_one (InField t v blocks end_of_frame) (ltb slot 15) (λ e. moved slot mask h (ltb-true slot 15 e)) (λ e. closed)
 
   end_came : (h : Held) → t.held ≡ h → InField t v blocks end_of_frame (frame_ends h t)
   end_came held.None h = round_came t.round refl
@@ -210,10 +210,10 @@ module _ (t : Front) (v : View) (blocks : ℕ) where
 
   pub came : (e : Event) → Came t v blocks e (work_of t v blocks e)
   unfolding work_of frame_of
-  came field_on = if-one (Came t v blocks field_on) t.field (λ e. nothing) (λ e. cleared true)
+  came field_on = if_one (Came t v blocks field_on) t.field (λ e. nothing) (λ e. cleared true)
   came field_off = cleared false
-  came end_of_frame = if-one (Came t v blocks end_of_frame) t.field (λ on. inside on (end_came t.held refl)) (λ off. nothing)
-  came (request f) = if-one (Came t v blocks (request f)) t.field (λ on. inside on (frame_came f (hears (dropped t) f))) (λ off. nothing)
+  came end_of_frame = if_one (Came t v blocks end_of_frame) t.field (λ on. inside on (end_came t.held refl)) (λ off. nothing)
+  came (request f) = if_one (Came t v blocks (request f)) t.field (λ on. inside on (frame_came f (hears (dropped t) f))) (λ off. nothing)
 
   -- and the work of a frame that is heard as a request, in the field
   pub request_work : (f : List ℕ) {e : Entry} {option : Bool} {start : ℕ} → t.field ≡ true → heard_of (dropped t) f ≡ heard.Request e option start

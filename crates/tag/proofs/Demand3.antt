@@ -9,12 +9,12 @@ use mathlib.Core.Option.{Option, none, some}
 use native.Mathlib.Omega.{arith}
 use lib.Dec.{eqb}
 use borrow.Author.Tests.{eqb-true, eq-eqb, ne_eqb}
-use Rattle.put.specs.If.{if◌then◌else◌}
+use Rattle.std.specs.Prelude.{if◌then◌else◌}
 use Rattle.rights.specs.declared.View.{View}
 use Rattle.rights.specs.Vault.{view_of}
 use Rattle.rights.specs.Passwords.{password_of}
 use Rattle.rights.specs.Blocks.{OnlyThis}
-use Rattle.rights.proofs.Cases.{or_true, or-one, both, join}
+use Rattle.rights.proofs.Cases.{or_true, or_one, both, join}
 use Rattle.rights.proofs.HiddenBlocks.{hidden_by_one}
 use Rattle.record.specs.declared.Tag.{Tag}
 use Rattle.tag.specs.Step.{Event, step}
@@ -75,7 +75,7 @@ module _ (p : ℕ) (some_p : p ≢ 0) where
 
   shut_is : {t : Tag} → Closed p t → Shut (only p) t.vault.keys.session
   shut_is c = record {
-    closed = λ n g. or-one (eqb n p) (eqb n 0) g (λ e. rw (eqb-true n p e) c.its) (λ e. rw (eqb-true n 0 e) c.configuration);
+    closed = λ n g. or_one (eqb n p) (eqb n 0) g (λ e. rw (eqb-true n p e) c.its) (λ e. rw (eqb-true n 0 e) c.configuration);
   }
 
   its_guards : guards (only p) p ≡ true
@@ -87,7 +87,7 @@ module _ (p : ℕ) (some_p : p ≢ 0) where
   -- ---- "is presented under its number"
 
   guards_is : (n : ℕ) → guards (only p) n ≡ true → (n ≡ p) ⊎ (n ≡ 0)
-  guards_is n g = or-one (eqb n p) (eqb n 0) g (λ e. inl (eqb-true n p e)) (λ e. inr (eqb-true n 0 e))
+  guards_is n g = or_one (eqb n p) (eqb n 0) g (λ e. inl (eqb-true n p e)) (λ e. inr (eqb-true n 0 e))
 
   is_guards : (n : ℕ) → (n ≡ p) ⊎ (n ≡ 0) → guards (only p) n ≡ true
   is_guards n (inl e) = rw e its_guards

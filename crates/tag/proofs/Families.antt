@@ -9,10 +9,10 @@ use native.Mathlib.Omega.{arith}
 use lib.ListN.{length}
 use lib.Dec.{eqb}
 use borrow.Author.Tests.{eqb-true, eqb-false, eq-eqb, ne_eqb, le-ltb, not-true}
-use Rattle.put.specs.If.{if◌then◌else◌}
+use Rattle.std.specs.Prelude.{if◌then◌else◌}
 use Rattle.put.specs.Number.{number_at}
 use Rattle.put.proofs.RoundTrips.{number_after}
-use Rattle.rights.proofs.Cases.{and_true, and_false, if-one, both}
+use Rattle.rights.proofs.Cases.{and_true, and_false, if_one, both}
 use Rattle.record.specs.declared.Front.{Front}
 use Rattle.record.specs.declared.Tag.{Tag}
 use Rattle.record.specs.declared.Round.TheVariants as round
@@ -65,7 +65,7 @@ stored_zero asked = here (eqb asked 0x00) refl
     here true e = rw (eqb-true asked 0x00 e)
     here false e =
         rw e
-        (if-one (λ (b : Bool). b ≡ false) (asks_family asked) (λ f. ne_eqb 0 (upper_half asked) (omega (arith, (family_halves asked f).0))) (λ f. refl))
+        (if_one (λ (b : Bool). b ≡ false) (asks_family asked) (λ f. ne_eqb 0 (upper_half asked) (omega (arith, (family_halves asked f).0))) (λ f. refl))
 
 -- 02 adds to 01's rule X0h of a stored XYh, with neither X nor Y 0, and nothing else
 abbrev pub added : ℕ → ℕ → Bool

@@ -8,9 +8,9 @@ use mathlib.Core.List.{List}
 use lib.ListN.{get_or}
 use lib.Dec.{ltb, eqb}
 use borrow.Author.Tests.{eqb-true, eqb-false, eq-eqb, ne_eqb, ltb-true, ltb-false, le-leb, lt-leb}
-use Rattle.put.specs.If.{if◌then◌else◌}
+use Rattle.std.specs.Prelude.{if◌then◌else◌}
 use Rattle.rights.specs.Registers.{register_rule, end_rule, pair_rule, possible}
-use Rattle.rights.proofs.Cases.{if-one, and_false, both}
+use Rattle.rights.proofs.Cases.{if_one, and_false, both}
 use Rattle.record.specs.declared.Tag.{Tag}
 use Rattle.tag.specs.Rules.{blocks_of, last_end}
 use Rattle.tag.specs.Image.{areas_in, mark_rule, lock_rule, zeros, reserved_rule, header_rule}
@@ -98,7 +98,7 @@ module _ (blocks : ℕ) (i : List ℕ) where
       record { named = λ h. absurd (h refl); clean = λ h n. skip at (suc n) b (λ k m o. past k (omega arith) (λ p. omega arith) (omega arith)) n (omega arith) }
   reserved (suc k) at l e b =
       let letter = zero_letter at (omega arith) (λ h. omega arith) l (omega arith) in
-      if-one Judged (not (eqb (get_or i at 0) 0))
+      if_one Judged (not (eqb (get_or i at 0) 0))
       (λ q. found 0x5E at (omega arith) letter (zero_rule at letter ∙ q) b)
       (λ q. reserved k (at + 1) (omega arith) (omega arith) (next at b (zero_rule at letter ∙ q)))
 
@@ -107,23 +107,23 @@ module _ (blocks : ℕ) (i : List ℕ) where
   judged =
       let e = last_end blocks in
       let a = areas_in i in
-      if-one Judged (not (mark_rule i)) (λ q. found 0x5A 0 (omega arith) refl q (λ n l. absurd (omega arith))) (λ q.
+      if_one Judged (not (mark_rule i)) (λ q. found 0x5A 0 (omega arith) refl q (λ n l. absurd (omega arith))) (λ q.
       let b = skip 1 11 (next 0 (λ n l. absurd (omega arith)) q) (λ n l m. free n (omega arith) (λ h. omega arith) (omega arith)) in
-      if-one Judged (not (lock_rule i)) (λ q. found 0x5B 11 (omega arith) refl q b) (λ q.
+      if_one Judged (not (lock_rule i)) (λ q. found 0x5B 11 (omega arith) refl q b) (λ q.
       let c = next 11 b q in
-      if-one Judged (not (register_rule a.rfa1ss)) (λ q. found 0x5C 12 (omega arith) refl q c) (λ q.
+      if_one Judged (not (register_rule a.rfa1ss)) (λ q. found 0x5C 12 (omega arith) refl q c) (λ q.
       let d = next 12 c q in
-      if-one Judged (not (end_rule e a.enda1)) (λ q. found 0x5D 13 (omega arith) refl q d) (λ q.
+      if_one Judged (not (end_rule e a.enda1)) (λ q. found 0x5D 13 (omega arith) refl q d) (λ q.
       let f = next 13 d q in
-      if-one Judged (not (register_rule a.rfa2ss)) (λ q. found 0x5C 14 (omega arith) refl q f) (λ q.
+      if_one Judged (not (register_rule a.rfa2ss)) (λ q. found 0x5C 14 (omega arith) refl q f) (λ q.
       let g = next 14 f q in
-      if-one Judged (not (end_rule e a.enda2 && pair_rule e a.enda1 a.enda2)) (λ q. found 0x5D 15 (omega arith) refl q g) (λ q.
+      if_one Judged (not (end_rule e a.enda2 && pair_rule e a.enda1 a.enda2)) (λ q. found 0x5D 15 (omega arith) refl q g) (λ q.
       let h = next 15 g q in
-      if-one Judged (not (register_rule a.rfa3ss)) (λ q. found 0x5C 16 (omega arith) refl q h) (λ q.
+      if_one Judged (not (register_rule a.rfa3ss)) (λ q. found 0x5C 16 (omega arith) refl q h) (λ q.
       let j = next 16 h q in
-      if-one Judged (not (end_rule e a.enda3 && pair_rule e a.enda2 a.enda3)) (λ q. found 0x5D 17 (omega arith) refl q j) (λ q.
+      if_one Judged (not (end_rule e a.enda3 && pair_rule e a.enda2 a.enda3)) (λ q. found 0x5D 17 (omega arith) refl q j) (λ q.
       let k = next 17 j q in
-      if-one Judged (not (register_rule a.rfa4ss)) (λ q. found 0x5C 18 (omega arith) refl q k) (λ q.
+      if_one Judged (not (register_rule a.rfa4ss)) (λ q. found 0x5C 18 (omega arith) refl q k) (λ q.
       reserved 13 51 (omega arith) refl (skip 19 51 (next 18 k q) (λ n l m. free n (omega arith) (λ h. omega arith) m)))))))))))
 
 -- ---- "Exactly the same images are refused."

@@ -8,8 +8,8 @@ use mathlib.Core.List.{List}
 use lib.ListN.{length, get_or, drop, length-drop}
 use lib.Dec.{eqb}
 use borrow.Author.Tests.{eqb-true, eq-eqb}
-use Rattle.put.specs.If.{if◌then◌else◌}
-use Rattle.rights.proofs.Cases.{or_true, join, or-one}
+use Rattle.std.specs.Prelude.{if◌then◌else◌}
+use Rattle.rights.proofs.Cases.{or_true, join, or_one}
 use Rattle.record.specs.declared.Tag.{Tag}
 use Rattle.tag.specs.Rules.{blocks_of, sound}
 use Rattle.tag.specs.Image.{tag_in, header_rule, image_of}
@@ -30,7 +30,7 @@ record Sized (m i : List ℕ) : Type 0 where
 module _ {m i : List ℕ} (s : Sized m i) where
   is_image_lem : is_image i ≡ true
   is_image_lem =
-      or-one (eqb (length m) 2048) (eqb (length m) 8192) s.memory
+      or_one (eqb (length m) 2048) (eqb (length m) 8192) s.memory
       (λ e. rw (eq-eqb (length i) 2112 (omega (arith, eqb-true (length m) 2048 e))))
       (λ e. rw (eq-eqb (length i) 8256 (omega (arith, eqb-true (length m) 8192 e)), or_true))
 

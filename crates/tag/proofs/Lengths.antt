@@ -19,7 +19,7 @@ use Rattle.rights.specs.Vault.{view_of}
 use Rattle.rights.specs.Passwords.{present_of}
 use Rattle.rights.specs.Blocks.{area_of, may_read, readable_at}
 use Rattle.rights.specs.Registers.{possible}
-use Rattle.rights.proofs.Cases.{if-one}
+use Rattle.rights.proofs.Cases.{if_one}
 use Rattle.record.specs.declared.Front.{Front}
 use Rattle.record.specs.declared.Tag.{Tag}
 use Rattle.record.specs.Update.{with_front}
@@ -107,7 +107,7 @@ act_fits h (shape.password_written n k) = omega arith
 slot_fits : (t : Front) (slot mask : ℕ) → Fits (says (in_slot t slot mask))
 unfolding in_slot
 slot_fits t slot mask =
-    if-one (λ (a : Answer). Fits (says a)) (eqb (slot_of t mask) slot) (λ e. omega (arith, length_bytes 8 t.uid)) (λ e. omega arith)
+    if_one (λ (a : Answer). Fits (says a)) (eqb (slot_of t mask) slot) (λ e. omega (arith, length_bytes 8 t.uid)) (λ e. omega arith)
 
 field_fits : {t : Front} {v : View} {blocks : ℕ} {e : Event} {w : Work} → blocks ≤ 2048 → InField t v blocks e w → Fits w.act
 unfolding request_of

@@ -11,10 +11,10 @@ use native.Mathlib.Omega.{arith}
 use lib.ListN.{length, length-append, length-take, length-drop}
 use lib.Dec.{ltb}
 use borrow.Author.Tests.{ltb-true, ltb-false, lt-ltb, le-ltb}
-use Rattle.put.specs.If.{if◌then◌else◌}
+use Rattle.std.specs.Prelude.{if◌then◌else◌}
 use Rattle.rights.specs.declared.View.{View}
 use Rattle.rights.specs.Blocks.{readable_at, status_at}
-use Rattle.rights.proofs.Cases.{if-one, both}
+use Rattle.rights.proofs.Cases.{if_one, both}
 use Rattle.tag.specs.declared.Entry.{Entry}
 use Rattle.tag.specs.Table.{limit_of}
 use Rattle.tag.specs.Work.{shown, block_shown, listing}
@@ -59,7 +59,7 @@ pub listing_within : (v : View) (m : List ℕ) (limit b n : ℕ) (status : Bool)
 unfolding listing
 listing_within v m limit b zero status = omega arith
 listing_within v m limit b (suc n) status =
-    if-one (λ (l : List ℕ). length l ≤ 5 * (limit - b)) (ltb b limit && readable_at v b)
+    if_one (λ (l : List ℕ). length l ≤ 5 * (limit - b)) (ltb b limit && readable_at v b)
     (λ e. simp length-append (omega (arith, ltb-true b limit (both _ _ e).0, shown_most v m b status, listing_within v m limit (b + 1) n status)))
     (λ e. omega arith)
 
@@ -95,7 +95,7 @@ pub statuses_within : (v : View) (limit b n : ℕ) → length (statuses v limit 
 unfolding statuses
 statuses_within v limit b zero = omega arith
 statuses_within v limit b (suc n) =
-    if-one (λ (l : List ℕ). length l ≤ limit - b) (ltb b limit)
+    if_one (λ (l : List ℕ). length l ≤ limit - b) (ltb b limit)
     (λ e. omega (arith, ltb-true b limit e, statuses_within v limit (b + 1) n)) (λ e. omega arith)
 
 -- ---- the limit
@@ -104,5 +104,5 @@ statuses_within v limit b (suc n) =
 pub limit_within : (e : Entry) (blocks : ℕ) → limit_of e blocks ≤ blocks
 unfolding limit_of
 limit_within e blocks =
-    if-one (λ (n : ℕ). n ≤ blocks) e.wide (λ w. omega arith) (λ w.
-    if-one (λ (n : ℕ). n ≤ blocks) (ltb blocks 0x100) (λ h. omega arith) (λ h. ltb-false blocks 0x100 h))
+    if_one (λ (n : ℕ). n ≤ blocks) e.wide (λ w. omega arith) (λ w.
+    if_one (λ (n : ℕ). n ≤ blocks) (ltb blocks 0x100) (λ h. omega arith) (λ h. ltb-false blocks 0x100 h))

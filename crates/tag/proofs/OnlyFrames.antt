@@ -4,7 +4,7 @@ use Prim.Native.Nat.{ℕ}
 use mathlib.Core.Path.{◌≡◌, refl}
 use mathlib.Core.List.{List}
 use lib.Dec.{ltb}
-use Rattle.rights.proofs.Cases.{if-one}
+use Rattle.rights.proofs.Cases.{if_one}
 use Rattle.record.specs.declared.Tag.{Tag}
 use Rattle.record.specs.declared.Round.{Round}
 use Rattle.record.specs.declared.Round.TheVariants as round
@@ -34,7 +34,7 @@ module _ (size : ℕ) (t : Tag) (m : List ℕ) where
   round_lasts : (r : Round) → Leaves (round_ends r t.front)
   unfolding header_of perform next_slot
   round_lasts round.None = both refl refl
-  round_lasts (round.Open slot mask) = if-one Leaves (ltb slot 15) (λ e. both refl refl) (λ e. both refl refl)
+  round_lasts (round.Open slot mask) = if_one Leaves (ltb slot 15) (λ e. both refl refl) (λ e. both refl refl)
 
   frame_lasts : (h : Held) → Leaves (frame_ends h t.front)
   unfolding header_of perform
@@ -43,6 +43,6 @@ module _ (size : ℕ) (t : Tag) (m : List ℕ) where
 
   pub lasts : {e : Event} → NoFrame e → Lasts (step t m e)
   unfolding header_of perform work_of step
-  lasts on = if-one Leaves t.front.field (λ e. both refl refl) (λ e. both refl refl)
+  lasts on = if_one Leaves t.front.field (λ e. both refl refl) (λ e. both refl refl)
   lasts off = both refl refl
-  lasts end = if-one Leaves t.front.field (λ e. frame_lasts t.front.held) (λ e. both refl refl)
+  lasts end = if_one Leaves t.front.field (λ e. frame_lasts t.front.held) (λ e. both refl refl)

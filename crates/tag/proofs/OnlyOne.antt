@@ -10,9 +10,9 @@ use mathlib.Core.List.{List}
 use lib.Dec.{leb, ltb, eqb}
 use lib.ListN.{length}
 use borrow.Author.Tests.{eqb-true, not-true}
-use Rattle.put.specs.If.{if◌then◌else◌}
-use Rattle.put.proofs.Only.{one-result}
-use Rattle.rights.proofs.Cases.{if-one, both}
+use Rattle.std.specs.Prelude.{if◌then◌else◌}
+use Rattle.put.proofs.Only.{one_result}
+use Rattle.rights.proofs.Cases.{if_one, both}
 use Rattle.record.specs.declared.Tag.{Tag}
 use Rattle.record.specs.declared.Refusal.{Refusal}
 use Rattle.record.specs.declared.Refusal.TheVariants as refusal
@@ -69,7 +69,7 @@ refusal_again refusal.Small = refl
 -- refusals of one number and one place are one
 one_refusal : (r s : Refusal) {n p : ℕ} → number_of r ≡ n → number_of s ≡ n → place_of r ≡ p → place_of s ≡ p → r ≡ s
 one_refusal r s h k u v =
-    sym (refusal_again r) ∙ ap (λ n. refusal_of n (place_of r)) (one-result h k) ∙ ap (refusal_of (number_of s)) (one-result u v) ∙ refusal_again s
+    sym (refusal_again r) ∙ ap (λ n. refusal_of n (place_of r)) (one_result h k) ∙ ap (refusal_of (number_of s)) (one_result u v) ∙ refusal_again s
 
 -- so a fault is that of one refusal
 pub one_fault : (r s : Refusal) {f : Fault} → fault_of r ≡ f → fault_of s ≡ f → r ≡ s
@@ -129,7 +129,7 @@ one_numbered r s {n} d h k =
 
 -- outcomes of one refusal, one length and one record are one
 one_outcome : {r s : Outcome} {l : ℕ} {t : Tag} → r.refusal ≡ s.refusal → r.length ≡ l → s.length ≡ l → r.tag ≡ t → s.tag ≡ t → r ≡ s
-one_outcome {r} {s} p k l t u i = record { refusal = p i; length = one-result k l i; tag = one-result t u i }
+one_outcome {r} {s} p k l t u i = record { refusal = p i; length = one_result k l i; tag = one_result t u i }
 
 abbrev outcome_of : ℕ → ℕ → ℕ → Tag → Outcome
 outcome_of n place l t = record { refusal = refusal_of n place; length = l; tag = t }
@@ -155,8 +155,8 @@ one_event t e m x = let g = event_given t e m x in let given = event_numbered t 
     result =
         one_outcome {r = o.result} {s = p.result} (one_numbered o.result.refusal p.result.refusal given h.number k.number)
         h.length k.length h.tag k.tag i;
-    memory = one-result h.memory k.memory i;
-    room = one-result h.room k.room i;
+    memory = one_result h.memory k.memory i;
+    room = one_result h.room k.room i;
   };
 }
 
@@ -180,7 +180,7 @@ one_filled g n = record {
   only = λ o p h k i. record {
     result = one_outcome {r = o.result} {s = p.result}
         (one_refusal o.result.refusal p.result.refusal h.number k.number h.place k.place) h.length k.length h.tag k.tag i;
-    memory = one-result h.memory k.memory i;
+    memory = one_result h.memory k.memory i;
   };
 }
 
@@ -189,11 +189,11 @@ letter_placed : (place : ℕ) → (letter_of place ≡ 0 → ⊥) → Placed (le
 unfolding letter_of refusal_of
 letter_placed place =
     let P : ℕ → Type 0 = λ n. (n ≡ 0 → ⊥) → Placed n place in
-    if-one P (eqb place 0) (λ e h. placed 0x5A place refl refl) (λ e.
-    if-one P (eqb place 11) (λ e h. placed 0x5B place refl refl) (λ e.
-    if-one P (is_protection place) (λ e h. placed 0x5C place refl refl) (λ e.
-    if-one P (is_end place) (λ e h. placed 0x5D place refl refl) (λ e.
-    if-one P (is_reserved place) (λ e h. placed 0x5E place refl refl) (λ e h. absurd (h refl))))))
+    if_one P (eqb place 0) (λ e h. placed 0x5A place refl refl) (λ e.
+    if_one P (eqb place 11) (λ e h. placed 0x5B place refl refl) (λ e.
+    if_one P (is_protection place) (λ e h. placed 0x5C place refl refl) (λ e.
+    if_one P (is_end place) (λ e h. placed 0x5D place refl refl) (λ e.
+    if_one P (is_reserved place) (λ e h. placed 0x5E place refl refl) (λ e h. absurd (h refl))))))
 
 pub one_load : (t : Tag) (i m : List ℕ) → ExactlyOne (λ (o : LoadOutcome). LoadGives t i m o.memory o.result)
 unfolding load_given refusal_of
@@ -209,9 +209,9 @@ one_load t i m = one_filled (load_given t i m) given
 
     given : P (load_given t i m)
     given =
-        if-one P (not (is_image i)) (λ q. placed 4 0 refl refl) (λ q.
-        if-one P (not (fits_image m i)) (λ q. placed 1 0 refl refl) (λ q.
-        if-one P (not (header_rule (blocks_of m) i)) (λ q. wrong (not-true _ q)) (λ q. placed 0 0 refl refl)))
+        if_one P (not (is_image i)) (λ q. placed 4 0 refl refl) (λ q.
+        if_one P (not (fits_image m i)) (λ q. placed 1 0 refl refl) (λ q.
+        if_one P (not (header_rule (blocks_of m) i)) (λ q. wrong (not-true _ q)) (λ q. placed 0 0 refl refl)))
 
 pub one_factory : (t : Tag) (uid : ℕ) (m : List ℕ) → ExactlyOne (λ (o : LoadOutcome). FactoryGives t uid m o.memory o.result)
 unfolding factory_given refusal_of
@@ -221,7 +221,7 @@ one_factory t uid m = one_filled (factory_given t uid m) given
     P g = Placed g.number g.place
 
     given : P (factory_given t uid m)
-    given = if-one P (not (is_memory m)) (λ q. placed 1 0 refl refl) (λ q. placed 0 0 refl refl)
+    given = if_one P (not (is_memory m)) (λ q. placed 1 0 refl refl) (λ q. placed 0 0 refl refl)
 
 pub record SaveOutcome : Type 0 where
   pub result : Outcome
@@ -240,6 +240,6 @@ one_save t m i = let g = save_given t m i in let given = save_numbered t m i in 
     result =
         one_outcome {r = o.result} {s = p.result} (one_numbered o.result.refusal p.result.refusal given h.number k.number)
         h.length k.length h.tag k.tag i;
-    image = one-result h.image k.image i;
+    image = one_result h.image k.image i;
   };
 }

@@ -15,7 +15,7 @@ use Rattle.rights.specs.declared.Verdict.TheVariants.{Success, Error}
 use Rattle.rights.specs.Vault.{view_of}
 use Rattle.rights.specs.Passwords.{present_of}
 use Rattle.rights.specs.Blocks.{readable_at}
-use Rattle.rights.proofs.Cases.{if-one, or-one, both}
+use Rattle.rights.proofs.Cases.{if_one, or_one, both}
 use Rattle.rights.proofs.Sessions.{present_keeps}
 use Rattle.rights.proofs.Ranges.{status_byte, RangedVault, register_ranged}
 use Rattle.record.specs.declared.Front.{Front}
@@ -95,8 +95,8 @@ pub data RangedAct : Act → Type 0 where
 code_byte_lem : (c : ℕ) → is_code c ≡ true → c < 256
 unfolding is_code
 code_byte_lem c h =
-    or-one (eqb c 0x02 || eqb c 0x03) (leb 0x0F c && leb c 0x15) h
-    (λ e. or-one (eqb c 0x02) (eqb c 0x03) e (λ k. omega (arith, eqb-true c 0x02 k)) (λ k. omega (arith, eqb-true c 0x03 k)))
+    or_one (eqb c 0x02 || eqb c 0x03) (leb 0x0F c && leb c 0x15) h
+    (λ e. or_one (eqb c 0x02) (eqb c 0x03) e (λ k. omega (arith, eqb-true c 0x02 k)) (λ k. omega (arith, eqb-true c 0x03 k)))
     (λ e. omega (arith, leb-true c 0x15 (both (leb 0x0F c) (leb c 0x15) e).1))
 
 pub verdict_bytes : (v : Verdict) → Coded v → Bytes (carried (verdict v))
@@ -164,7 +164,7 @@ listing_bytes : (v : View) {m : List ℕ} (limit b n : ℕ) (status : Bool) → 
 unfolding listing
 listing_bytes v limit b zero status q = none
 listing_bytes v limit b (suc n) status q =
-    if-one Bytes (ltb b limit && readable_at v b) (λ e. below_append (shown_bytes v b status q) (listing_bytes v limit (b + 1) n status q)) (λ e. none)
+    if_one Bytes (ltb b limit && readable_at v b) (λ e. below_append (shown_bytes v b status q) (listing_bytes v limit (b + 1) n status q)) (λ e. none)
 
 -- ---- the gate
 

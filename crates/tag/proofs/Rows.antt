@@ -4,8 +4,8 @@ use Prim.Native.Nat.{ℕ}
 use mathlib.Core.Path.{◌≡◌}
 use lib.Dec.{eqb}
 use borrow.Author.Tests.{eqb-true}
-use Rattle.put.specs.If.{if◌then◌else◌}
-use Rattle.rights.proofs.Cases.{if-one}
+use Rattle.std.specs.Prelude.{if◌then◌else◌}
+use Rattle.rights.proofs.Cases.{if_one}
 use Rattle.tag.specs.declared.Command.TheVariants.{Present}
 use Rattle.tag.specs.declared.Entry.{Entry}
 use Rattle.tag.specs.Table.{entry_of}
@@ -13,7 +13,7 @@ use Rattle.tag.specs.Table.{entry_of}
 module _ (code : ℕ) where
   -- the row of code k, or a later one
   pub row : (P : Entry → Type 0) (k : ℕ) {x y : Entry} → (code ≡ k → P x) → P y → P (if eqb code k then x else y)
-  row P k here later = if-one P (eqb code k) (λ e. here (eqb-true code k e)) (λ e. later)
+  row P k here later = if_one P (eqb code k) (λ e. here (eqb-true code k e)) (λ e. later)
 
   abbrev Is : Entry → Type 0
   Is x = x.command ≡ Present → code ≡ 0xB3

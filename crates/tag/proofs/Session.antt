@@ -19,7 +19,7 @@ use Rattle.rights.specs.declared.View.{View}
 use Rattle.rights.specs.Vault.{view_of}
 use Rattle.rights.specs.Passwords.{is_open, password_of, with_password, change_verdict}
 use Rattle.rights.specs.Registers.{with_register}
-use Rattle.rights.proofs.Cases.{if-one}
+use Rattle.rights.proofs.Cases.{if_one}
 use Rattle.rights.proofs.Sessions.{change_leaves, change_replaces}
 use Rattle.record.specs.declared.Tag.{Tag}
 use Rattle.record.specs.Update.{with_front}
@@ -48,14 +48,14 @@ register_keys : (v : Vault) (address x : ℕ) → (with_register v address x).ke
 unfolding with_register
 register_keys v address x =
     let Same : Vault → Type 0 = λ w. w.keys ≡ v.keys in
-    if-one Same (eqb address 0x04) (λ e. refl) (λ e.
-    if-one Same (eqb address 0x05) (λ e. refl) (λ e.
-    if-one Same (eqb address 0x06) (λ e. refl) (λ e.
-    if-one Same (eqb address 0x07) (λ e. refl) (λ e.
-    if-one Same (eqb address 0x08) (λ e. refl) (λ e.
-    if-one Same (eqb address 0x09) (λ e. refl) (λ e.
-    if-one Same (eqb address 0x0A) (λ e. refl) (λ e.
-    if-one Same (eqb address 0x0F) (λ e. refl) (λ e. refl))))))))
+    if_one Same (eqb address 0x04) (λ e. refl) (λ e.
+    if_one Same (eqb address 0x05) (λ e. refl) (λ e.
+    if_one Same (eqb address 0x06) (λ e. refl) (λ e.
+    if_one Same (eqb address 0x07) (λ e. refl) (λ e.
+    if_one Same (eqb address 0x08) (λ e. refl) (λ e.
+    if_one Same (eqb address 0x09) (λ e. refl) (λ e.
+    if_one Same (eqb address 0x0A) (λ e. refl) (λ e.
+    if_one Same (eqb address 0x0F) (λ e. refl) (λ e. refl))))))))
 
 unit_session : (u : Unit) (t : Tag) → open_in (unit_on_tag u t) ≡ open_in t
 unit_session (block b bytes) t = refl
@@ -116,7 +116,7 @@ pub session_kept : (t : Tag) (m f : List ℕ) → code_of f ≢ 0xB3 → (step t
 unfolding frame_of work_of step perform
 session_kept t m f other =
     let v = view_of t.vault in
-    if-one (λ (w : Work). open_in (performed t m w).tag ≡ open_in t) t.front.field
+    if_one (λ (w : Work). open_in (performed t m w).tag ≡ open_in t) t.front.field
     (λ on. frame_session t m other (frame_came t.front v (blocks_of m) f (hears (dropped t.front) f))) (λ off. refl)
 
 keys_after : (t : Tag) (m f : List ℕ) → t.front.field ≡ true → code_of f ≡ 0xB1 → Passes t.front f

@@ -10,7 +10,7 @@ use lib.Seq.{length-sets}
 use lib.Dec.{eqb}
 use borrow.Author.Tests.{eqb-true}
 use Rattle.rights.specs.Vault.{view_of}
-use Rattle.rights.proofs.Cases.{both, or-one}
+use Rattle.rights.proofs.Cases.{both, or_one}
 use Rattle.record.specs.declared.Tag.{Tag}
 use Rattle.record.specs.Update.{with_front}
 use Rattle.tag.specs.Rules.{blocks_of}
@@ -21,7 +21,7 @@ use Rattle.tag.specs.Host.{is_memory, fits_image}
 -- a memory of n bytes
 pub memory_bounds : (n : ℕ) → (eqb n 2048 || eqb n 8192) ≡ true → (2048 ≤ n) × (n ≤ 8192)
 memory_bounds n h =
-    or-one (eqb n 2048) (eqb n 8192) h
+    or_one (eqb n 2048) (eqb n 8192) h
     (λ e. let k = eqb-true n 2048 e in (omega arith, omega arith))
     (λ e. let k = eqb-true n 8192 e in (omega arith, omega arith))
 

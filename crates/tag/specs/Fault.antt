@@ -1,8 +1,7 @@
 -- 02, "Where a header is wrong": the first fault of an image's header, in the order of its bytes. The rules are those of 01, `header_rule`, one by
 -- one; E comes from the memory's size, which at this check fits the image's length.
 -- Assumes nothing.
-use Rattle.std.specs.Prelude.{ℕ, zero, suc, ◌+◌, ◌-◌, Bool, false, not, ◌&&◌, ◌||◌, List, get_or, leb, eqb}
-use Rattle.put.specs.If.{if◌then◌else◌}
+use Rattle.std.specs.Prelude.{ℕ, zero, suc, ◌+◌, ◌-◌, Bool, false, not, ◌&&◌, ◌||◌, List, get_or, leb, eqb, if◌then◌else◌}
 use Rattle.rights.specs.declared.Areas.{Areas}
 use Rattle.rights.specs.Registers.{register_rule, end_rule, pair_rule}
 use Rattle.tag.specs.Rules.{last_end}

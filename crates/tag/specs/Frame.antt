@@ -1,7 +1,6 @@
 -- "From frame to command": "Checks, first match wins". A check is true where it matches, and so stops the frame. Check 1 is where events are (Step).
 -- Assumes nothing.
-use Rattle.std.specs.Prelude.{ℕ, ◌+◌, ◌-◌, ◌/◌, ◌%◌, ◌^◌, ◌≡◌, Bool, true, false, not, ◌&&◌, ◌||◌, List, length, get_or, take, drop, leb, ltb, eqb}
-use Rattle.put.specs.If.{if◌then◌else◌}
+use Rattle.std.specs.Prelude.{ℕ, ◌+◌, ◌-◌, ◌/◌, ◌%◌, ◌^◌, ◌≡◌, Bool, true, false, not, ◌&&◌, ◌||◌, List, length, get_or, take, drop, leb, ltb, eqb, if◌then◌else◌}
 use Rattle.put.specs.Number.{number_at}
 use Rattle.crc.specs.Crc.{crc_of}
 use Rattle.record.specs.declared.Front.{Front}

@@ -1,7 +1,6 @@
 -- "Host calls and their numbers": what each call gives, for every input whatever.
 -- Assumes nothing.
-use Rattle.std.specs.Prelude.{ℕ, ◌+◌, Bool, not, ◌||◌, ◌&&◌, ◌≡◌, List, ◌++◌, length, drop, replicate, ltb, eqb}
-use Rattle.put.specs.If.{if◌then◌else◌}
+use Rattle.std.specs.Prelude.{ℕ, ◌+◌, Bool, not, ◌||◌, ◌&&◌, ◌≡◌, List, ◌++◌, length, drop, replicate, ltb, eqb, if◌then◌else◌}
 use Rattle.record.specs.declared.Tag.{Tag}
 use Rattle.record.specs.declared.Refusal.{Refusal}
 use Rattle.record.specs.declared.Refusal.TheVariants as refusal

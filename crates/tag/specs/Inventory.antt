@@ -1,7 +1,6 @@
 -- "Inventory": its fields, one slot and sixteen, the round, and the end of a frame.
 -- Assumes nothing.
-use Rattle.std.specs.Prelude.{ℕ, ◌+◌, ◌-◌, ◌/◌, ◌%◌, ◌^◌, Bool, not, ◌&&◌, ◌||◌, List, ◌∷◌, get_or, ltb, eqb}
-use Rattle.put.specs.If.{if◌then◌else◌}
+use Rattle.std.specs.Prelude.{ℕ, ◌+◌, ◌-◌, ◌/◌, ◌%◌, ◌^◌, Bool, not, ◌&&◌, ◌||◌, List, ◌∷◌, get_or, ltb, eqb, if◌then◌else◌}
 use Rattle.put.specs.Number.{number_at, bytes_of}
 use Rattle.record.specs.declared.Front.{Front}
 use Rattle.record.specs.declared.Round.TheVariants as round

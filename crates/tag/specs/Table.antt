@@ -1,8 +1,7 @@
 -- The command table: for each listed code its work, the width of its block numbers, whether it has a count, the length of its fields and
 -- what it does with Option_flag. Option_flag "is taken by 02h, 20h, 23h, 30h, 33h and the write-like ones below"
 -- Assumes nothing.
-use Rattle.std.specs.Prelude.{ℕ, ◌+◌, ◌*◌, true, false, List, get_or, drop, ltb, eqb}
-use Rattle.put.specs.If.{if◌then◌else◌}
+use Rattle.std.specs.Prelude.{ℕ, ◌+◌, ◌*◌, true, false, List, get_or, drop, ltb, eqb, if◌then◌else◌}
 use Rattle.put.specs.Number.{number_at}
 use Rattle.tag.specs.declared.Command.{Command}
 use Rattle.tag.specs.declared.Command.TheVariants.{StayQuiet, Read, Write, Lock, Select, ResetToReady, WriteAfi, LockAfi, WriteDsfid, LockDsfid, Status, ReadRegister, WriteRegister, WritePassword, Present, Unlisted}

@@ -8,7 +8,7 @@ use native.Mathlib.Omega.{arith}
 use lib.Dec.{eqb}
 use lib.ListN.{length}
 use borrow.Author.Tests.{eqb-true, eq-eqb}
-use Rattle.put.specs.If.{if◌then◌else◌}
+use Rattle.std.specs.Prelude.{if◌then◌else◌}
 use Rattle.tray.specs.Tray.{Request, asks, speaks_in, those, joined, longer, heard, found, follow, sent, requests_sent}
 use Rattle.tray.specs.Tray.{is_in, any_equal, search_given, times_in}
 use Rattle.tray.proofs.Slots.{same_test}

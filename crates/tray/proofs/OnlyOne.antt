@@ -7,7 +7,7 @@ use mathlib.Core.Bool.{Bool, true, false}
 use mathlib.Core.List.{List}
 use lib.Dec.{ltb}
 use lib.ListN.{length}
-use Rattle.put.specs.If.{if◌then◌else◌}
+use Rattle.std.specs.Prelude.{if◌then◌else◌}
 use Rattle.tag.specs.Host.{number_of}
 use Rattle.tag.proofs.Refused.{chosen}
 use Rattle.tag.proofs.OnlyOne.{ExactlyOne, refusal_of, Numbered, numbered, some_refusal, one_numbered}

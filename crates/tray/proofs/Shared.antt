@@ -11,7 +11,7 @@ use lib.Dec.{leb, eqb}
 use lib.ListN.{length}
 use lib.Pow.{pow_pos, pow-add, mod-mod-pow, low}
 use borrow.Author.Tests.{eqb-true, eq-eqb, le-leb, lt-leb, leb-true}
-use Rattle.put.specs.If.{if◌then◌else◌}
+use Rattle.std.specs.Prelude.{if◌then◌else◌}
 use Rattle.tag.specs.Inventory.{low_bits, fits}
 use Rattle.tray.specs.Tray.{speaks_in, those, total, longer, search_sends, shared_masks}
 use Rattle.tray.specs.Steps.{costs, requests}

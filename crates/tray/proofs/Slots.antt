@@ -9,7 +9,7 @@ use native.Mathlib.Omega.{arith}
 use lib.Dec.{eqb}
 use lib.Pow.{mod-pow-add, high, low, pow_pos, pow-add}
 use borrow.Author.Tests.{eqb-true, eqb-false, eq-eqb, ne_eqb}
-use Rattle.put.specs.If.{if◌then◌else◌}
+use Rattle.std.specs.Prelude.{if◌then◌else◌}
 use Rattle.rights.proofs.Cases.{both, join}
 use Rattle.tag.specs.Inventory.{fits}
 use Rattle.tray.specs.Tray.{speaks_in, those, total, longer}

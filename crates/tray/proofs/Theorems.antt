@@ -9,7 +9,7 @@ use lib.Dec.{eqb}
 use lib.ListN.{length, drop, take}
 use lib.Seq.{take_at, drop_at}
 use borrow.Author.Tests.{eqb-true, le-ltb}
-use Rattle.put.specs.If.{if◌then◌else◌}
+use Rattle.std.specs.Prelude.{if◌then◌else◌}
 use Rattle.rights.proofs.Cases.{neither}
 use Rattle.tray.specs.Tray.{search_finds, search_given, is_in, any_equal, times_in, Each, Lists}
 use Rattle.tray.proofs.Weigh.{weigh_length, weigh_times, all_weigh}

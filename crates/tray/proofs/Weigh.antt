@@ -10,7 +10,7 @@ use lib.Dec.{eqb}
 use lib.ListN.{length}
 use lib.Pow.{pow_pos}
 use borrow.Author.Tests.{eqb-true, eqb-false}
-use Rattle.put.specs.If.{if◌then◌else◌}
+use Rattle.std.specs.Prelude.{if◌then◌else◌}
 use Rattle.rights.proofs.Cases.{neither}
 use Rattle.tag.specs.Inventory.{fits}
 use Rattle.tray.specs.Tray.{speaks_in, those, joined, total, longer, heard, found, is_in, any_equal, times_in, Each, none, more}

@@ -1,8 +1,7 @@
 -- W-201, "Finding every tag on a tray." Quoted words are document 02's where nothing else is said. A tag is its UID, "all Ready and given by their
 -- UIDs"; what a tag of document 01 says to these requests is in Tags.
 -- Assumes nothing.
-use Rattle.std.specs.Prelude.{◌≡◌, ℕ, zero, suc, ◌+◌, ◌*◌, ◌^◌, ◌<◌, Bool, true, false, ◌&&◌, ◌||◌, List, [], ◌∷◌, ◌++◌, length, take, drop, leb, ltb, eqb}
-use Rattle.put.specs.If.{if◌then◌else◌}
+use Rattle.std.specs.Prelude.{◌≡◌, ℕ, zero, suc, ◌+◌, ◌*◌, ◌^◌, ◌<◌, Bool, true, false, ◌&&◌, ◌||◌, List, [], ◌∷◌, ◌++◌, length, take, drop, leb, ltb, eqb, if◌then◌else◌}
 use Rattle.tag.specs.Inventory.{low_bits, next_four, fits}
 
 -- ---- one request
