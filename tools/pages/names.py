@@ -10,7 +10,7 @@ LANGUAGE = {"requires", "ensures", "pub", "fn", "mod", "match", "break", "use", 
 OTHERS = {
     "crate/File: name", "crate::module::function",  # stand for any name
     "es",  # the list of events of the theorem of demand 3
-    "axioms=4", "read", "write", "lseek", "rattle_errno",  # what the gate prints, and what those axioms are of
+    "axioms=3", "read", "write", "rattle_errno",  # what the gate prints, and what those axioms are of
     "003, 4.2.1:",  # how a comment names a source
     "n.", "Bool",  # of the language: what `use M as n` puts before names, and the type of tests
 }

@@ -127,7 +127,7 @@ class Sources:
         self.functions = [function for crate, program in self.crates.items() for function in functions(crate, program)]
         self.by_path = {function.path: function for function in self.functions}
         self.files, self.code = {}, collections.defaultdict(set)
-        for path in self.listed("*/**/*"):
+        for path in self.listed("[ps]*/**/*"):
             _, crate, folder, *below = path.relative_to(ROOT).parts
             if path.suffix == ".antt" and folder in ("specs", "proofs") and below[-1] not in OF_FUNCTIONS:
                 self.files[crate, folder, "/".join(below)[:-5]] = Antt(path.read_text(encoding="utf-8"), folder == "proofs")
