@@ -1,5 +1,5 @@
 // "The bench holds one tag record, and each event updates that record": the record is lent by `&mut`, the step of `host` is taken on it by
-// value, and the next record is stored in its place. Any record, any bytes and any buffers are taken, as by `host`.
+// value, and the next record is stored in its place. Memory and room are lent one by one, as `host` takes them. Any record, any bytes and any buffers are taken, as by `host`.
 #![tactic(auto)]
 
 ghost use Rattle.tag.specs.Step.{event_of};
@@ -8,36 +8,33 @@ ghost use Rattle.bench.specs.Updates.{Updates};
 
 use record::{Kind, Outcome, Refusal, Tag};
 
-// What an event gives where the record is lent: refusal, and length of the answer in the room
-#[derive(Clone, Copy)]
-pub struct Said {
-    pub refusal: Refusal,
-    pub length: usize,
-}
-
 // "each event updates that record"
-pub fn on_event(tag: &mut Tag, kind: Kind, frame: &[u8], memory: &mut [u8], room: &mut [u8]) -> Said
+pub fn on_event(
+    tag: &mut Tag,
+    kind: Kind,
+    frame: &[u8],
+    memory: &mut [u8],
+    room: &mut [u8],
+) -> Result<usize, Refusal>
     ensures { Updates (event_given tag.old (event_of kind frame.now) memory.old
         room.old) tag.new memory.new room.new result }
 {
-    let o = host::event(*tag, kind, frame, memory, room);
+    let o = host::event(*tag, kind, frame, memory, room)?;
     *tag = o.tag;
-    Said {
-        refusal: o.refusal,
-        length: o.length,
-    }
+    Ok(o.length)
 }
 
 // The same by value: the record is lent to `on_event` and given back. A caller of this one holds no reference to a record.
-pub fn through(tag: Tag, kind: Kind, frame: &[u8], memory: &mut [u8], room: &mut [u8]) -> Outcome
+pub fn through(
+    mut tag: Tag,
+    kind: Kind,
+    frame: &[u8],
+    memory: &mut [u8],
+    room: &mut [u8],
+) -> Result<Outcome, Refusal>
     ensures { EventGives tag (event_of kind frame.now) memory.old room.old
         memory.new room.new result }
 {
-    let mut t = tag;
-    let s = on_event(&mut t, kind, frame, memory, room);
-    Outcome {
-        refusal: s.refusal,
-        length: s.length,
-        tag: t,
-    }
+    let length = on_event(&mut tag, kind, frame, memory, room)?;
+    Ok(Outcome { length, tag })
 }

@@ -28,7 +28,9 @@ units_run (suc n) b bytes m h =
     rw (units_run n (b + 1) (drop 4 bytes) (sets m (4 * b) (take 4 bytes)) (simp length-drop (omega arith)), all, take-add, sets_append, next)
 
 -- all bytes of n blocks put at the start of what is lent as `&mut m[4 * b..]`: the whole when it is back
-pub units_put : (m bytes : List ℕ) (n b : ℕ) {ys : List ℕ} {k : ℕ} → 4 * n ≤ length bytes → 4 * (b + n) ≤ length m → Put (take (4 * n) bytes) (take (length m - 4 * b) (drop (4 * b) m)) ys k → take (4 * b) m ++ (ys ++ drop (length m - 4 * b) (drop (4 * b) m)) ≡ apply_to_memory (block_units b n bytes) m
+pub units_put : (m bytes : List ℕ) (n b : ℕ) {ys : List ℕ} {k : ℕ} → 4 * n ≤ length bytes → 4 * (b + n) ≤ length m
+    → Put (take (4 * n) bytes) (take (length m - 4 * b) (drop (4 * b) m)) ys k
+    → take (4 * b) m ++ (ys ++ drop (length m - 4 * b) (drop (4 * b) m)) ≡ apply_to_memory (block_units b n bytes) m
 units_put m bytes n b {ys} h room p =
     let fits : 4 * b + length (take (4 * n) bytes) ≤ length m = simp length-take (omega arith) in
     rw (put_tail m ys (take (4 * n) bytes) (4 * b) p.is, units_run n b bytes m h, sets-eq (take (4 * n) bytes) m (4 * b) fits, append_assoc)

@@ -9,31 +9,30 @@ ghost use Rattle.tag.specs.Blocks.{read_verdict, statuses, status_verdict, write
 
 use rights::{Vault, Verdict, View};
 
-// "First block outside: 10h. First block not readable: 15h."
+// The blocks that a read names: from the first one on, count of them, of which those from the limit on are outside
+#[derive(Clone, Copy)]
+pub struct Run {
+    pub limit: usize,
+    pub first: u16,
+    pub count: u32,
+}
+
+// "First block outside: 10h. First block not readable: 15h." A verdict looks at two numbers of a run, and so takes no `Run`.
+#[tactic(auto, unfolding(tag::specs::Blocks::read_verdict))]
 pub fn read_verdict(v: View, limit: usize, first: u16) -> Verdict
     ensures { result ≡ read_verdict v limit first }
 {
     let block = first as usize;
     if limit <= block {
-        return Verdict::Error(0x10);
+        return Err(0x10);
     }
     if !rights::blocks::readable(v, block) {
-        return Verdict::Error(0x15);
+        return Err(0x15);
     }
-    Verdict::Success
+    Ok(())
 }
 
-// How many bytes a read answers for a block.
-fn size_shown(status: bool) -> usize
-    ensures { result ≡ (if status then 5 else 4) }
-{
-    if status {
-        return 5;
-    }
-    4
-}
-
-// What a read answers for a block goes to the start of out.
+// What a read answers for a block goes to the start of out, the caller's room, here as below: its length is returned.
 fn put_block(v: View, mem: &[u8], block: usize, status: bool, out: &mut [u8]) -> usize
     requires block_in_bounds { 4 * block + 4 ≤ length mem.now }
     requires else_in_bounds { (if status then 5 else 4) ≤ length out.old }
@@ -48,85 +47,74 @@ fn put_block(v: View, mem: &[u8], block: usize, status: bool, out: &mut [u8]) ->
     put::copy(bytes, out)
 }
 
-// The blocks from first on, count of them, go to the start of out: "the list stops before the first block that is outside or not readable".
-pub fn read_blocks(
-    v: View,
-    mem: &[u8],
-    limit: usize,
-    first: u16,
-    count: u32,
-    status: bool,
-    out: &mut [u8],
-) -> usize
-    requires limit_in_bounds { 4 * limit ≤ length mem.now }
-    requires limit_in_bounds_2 { 5 * limit ≤ length out.old }
-    ensures { Put (listing v mem.now limit first count status) out.old out.new result }
+// The blocks of a run go to the start of out: "the list stops before the first block that is outside or not readable", and the
+// loop "is left from inside the byte copy", as document 01 wants it.
+pub fn read_blocks(v: View, mem: &[u8], run: Run, status: bool, out: &mut [u8]) -> usize
+    requires limit_in_bounds { 4 * run.limit ≤ length mem.now }
+    requires limit_in_bounds_2 { 5 * run.limit ≤ length out.old }
+    ensures { Put (listing v mem.now run.limit run.first run.count status) out.old out.new result }
 {
-    let size = size_shown(status);
-    let mut n: usize = 0;
-    let blocks = loop {
-        if n >= count as usize {
-            break n;
-        }
-        let block = first as usize + n;
-        if block >= limit {
-            break n; // "outside"
+    let mut at = 0;
+    for n in 0..run.count as usize {
+        let block = run.first as usize + n;
+        if block >= run.limit {
+            return at; // "outside"
         }
         if !rights::blocks::readable(v, block) {
-            break n; // "not readable"
+            return at; // "not readable"
         }
-        put_block(v, mem, block, status, &mut out[size * n..]);
-        n += 1;
-    };
-    size * blocks
+        at += put_block(v, mem, block, status, &mut out[at..]);
+    }
+    at
 }
 
 // "outside answers 10h"
+#[tactic(auto, unfolding(tag::specs::Blocks::status_verdict))]
 pub fn status_verdict(limit: usize, first: u16) -> Verdict
     ensures { result ≡ status_verdict limit first }
 {
     if limit <= first as usize {
-        return Verdict::Error(0x10);
+        return Err(0x10);
     }
-    Verdict::Success
+    Ok(())
 }
 
-// The status bytes of the blocks from first on, count of them, go to the start of out: outside "cuts as above, readability does not".
-pub fn read_statuses(v: View, limit: usize, first: u16, count: u32, out: &mut [u8]) -> usize
-    requires { limit ≤ length out.old }
-    ensures { Put (statuses v limit first count) out.old out.new result }
+// The status bytes of the blocks of a run go to the start of out: outside "cuts as above, readability does not".
+pub fn read_statuses(v: View, run: Run, out: &mut [u8]) -> usize
+    requires { run.limit ≤ length out.old }
+    ensures { Put (statuses v run.limit run.first run.count) out.old out.new result }
 {
-    let mut n: usize = 0;
-    while n < count as usize {
-        let block = first as usize + n;
-        if block >= limit {
+    let count = run.count as usize;
+    for n in 0..count {
+        let block = run.first as usize + n;
+        if block >= run.limit {
             return n;
         }
         out[n] = rights::blocks::status(v, block);
-        n += 1;
     }
-    n
+    count
 }
 
 // "count over 4 is 0Fh; any block outside 10h; area border crossed 0Fh; any block not writable or locked 12h", of the first block and so
 // many more.
+#[tactic(auto, unfolding(tag::specs::Blocks::write_verdict))]
 pub fn write_verdict(v: View, limit: usize, first: u16, more: u16) -> Verdict
     ensures { result ≡ write_verdict v limit first more }
 {
     if 4 < more as usize + 1 {
-        return Verdict::Error(0x0F);
+        return Err(0x0F);
     }
     if limit <= first as usize + more as usize {
-        return Verdict::Error(0x10);
+        return Err(0x10);
     }
     let areas = v.areas;
     if rights::blocks::crosses(areas, first, more) {
-        return Verdict::Error(0x0F);
+        return Err(0x0F);
     }
     if rights::blocks::any_barred(v, first, more + 1) {
-        return Verdict::Error(0x12);
+        return Err(0x12);
     }
-    Verdict::Success
+    Ok(())
 }
 
 // "All or none is written": the bytes of the first block and so many more, in one copy.
@@ -141,20 +129,21 @@ pub fn write_blocks(mem: &mut [u8], first: u16, more: u16, bytes: &[u8])
 }
 
 // "block over 1 is 10h; already locked 11h; not writable 14h"
+#[tactic(auto, unfolding(tag::specs::Blocks::lock_verdict))]
 pub fn lock_verdict(v: View, block: u16) -> Verdict
     ensures { result ≡ lock_verdict v block }
 {
     let b = block as usize;
     if 1 < b {
-        return Verdict::Error(0x10);
+        return Err(0x10);
     }
     if rights::blocks::locked(v, b) {
-        return Verdict::Error(0x11);
+        return Err(0x11);
     }
     if !rights::blocks::writable(v, b) {
-        return Verdict::Error(0x14);
+        return Err(0x14);
     }
-    Verdict::Success
+    Ok(())
 }
 
 // The vault with the second block locked, block 1, or the first, block 0.
@@ -162,7 +151,8 @@ pub fn lock_block(v: Vault, second: bool) -> Vault
     ensures { result ≡ with_block_lock v second }
 {
     if second {
-        return Vault { lock1: true, ..v };
+        Vault { lock1: true, ..v }
+    } else {
+        Vault { lock0: true, ..v }
     }
-    Vault { lock0: true, ..v }
 }

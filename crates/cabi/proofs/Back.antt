@@ -4,6 +4,7 @@ use Prim.Native.Nat.{ℕ, ◌<◌}
 use native.Mathlib.Omega.{arith}
 use mathlib.Core.Path.{◌≡◌}
 use mathlib.Core.List.{List}
+use Rattle.std.specs.Result.{result_err}
 use Rattle.tag.specs.Host.{LoadGiven, load_given}
 use Rattle.tag.proofs.OnlyOne.{one_load}
 use Rattle.packed.specs.Bytes.{record_in}
@@ -19,7 +20,7 @@ module _ (i r m : List ℕ) where
   short : given.number < 0x10000
   short =
       let o = one_load (record_in r) i m in
-      omega (arith, number_most o.outcome.result.refusal, o.meets.number)
+      omega (arith, number_most (result_err o.outcome.result), o.meets.number)
 
   pub load_refusal : refusal_in (load_left i r m).result ≡ (load_given (record_in r) i m).number
   unfolding load_left

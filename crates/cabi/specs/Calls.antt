@@ -1,14 +1,20 @@
 -- The calls of the C boundary: what each returns, and every byte that it leaves, for every input whatever.
 -- Assumes nothing.
-use Rattle.std.specs.Prelude.{ℕ, ◌+◌, not, ◌≡◌, List, length, ltb, eqb, if◌then◌else◌}
+use Rattle.std.specs.Prelude.{ℕ, ◌+◌, not, ◌≡◌, List, length, ltb, eqb, if◌then◌else◌, Some, Result, Ok, Err}
 use Rattle.record.specs.declared.Kind.{Kind}
 use Rattle.record.specs.declared.Kind.TheVariants.{FieldOn, FieldOff, EndOfFrame, Request}
 use Rattle.tag.specs.Step.{event_of}
 use Rattle.tag.specs.Image.{header_length, image_of}
-use Rattle.tag.specs.Host.{is_memory, fits_image, least_room, is_image, event_done, LoadGiven, load_given, factory_given}
+use Rattle.record.specs.declared.Refusal.{Refusal}
+use Rattle.tag.specs.Host.{number_of, place_of, is_memory, fits_image, least_room, is_image, event_done, LoadGiven, load_given, factory_given}
 use Rattle.tray.specs.Tray.{search_given}
 use Rattle.packed.specs.Bytes.{record_in, is_record, record_of}
 use Rattle.packed.specs.Result.{result_of}
+
+-- the result of a call that returns a length, or is refused
+abbrev pub returned : Result ℕ Refusal → ℕ
+returned (Ok l) = result_of 0 0 l
+returned (Err q) = result_of (place_of (Some q)) (number_of (Some q)) 0
 
 -- ---- an event
 

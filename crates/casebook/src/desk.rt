@@ -1,165 +1,194 @@
-// What a line does to the lent buffers, and its answer line: first what it lends, of the whole buffers, then what it does, over what is lent.
-ghost use Rattle.std.specs.Prelude.{◌*◌, ◌≤◌, length};
-ghost use Rattle.caselines.specs.Limits.{frame_most, image_most, uid_length, entries_most, tags_most, row_most};
-ghost use Rattle.caselines.specs.Form.{Fits};
-ghost use Rattle.caselines.specs.Row.{Suits, SuitsSearch};
+// What a line does to the record and the lent buffers, and its answer line: first what it lends, of the whole buffers, then what it does, over what
+// is lent.
+ghost use Rattle.std.specs.Prelude.{◌≡◌, ◌*◌, ◌≤◌, length};
 ghost use Rattle.caselines.specs.Lent.{Within};
-ghost use Rattle.casebook.specs.Desk.{Buffers};
+ghost use Rattle.caselines.specs.Limits.{frame_most, image_most, uid_length, entries_most, tags_most, row_most};
+ghost use Rattle.cabi.specs.Calls.{kind_in};
 
 use caselines::entries::put_entries;
-use caselines::form::{Form, after, form_of};
+use caselines::form::{Form, form_of};
 use caselines::lent::{Lent, lend};
-use caselines::limits::{ENTRIES, FRAME, IMAGE, TAGS, UID, UIDS};
+use caselines::limits::{ENTRIES, FRAME, IMAGE, MEMORY, ROOM, ROW, TAGS, UID, UIDS};
 use caselines::row::{put_call, put_search};
 use packed::RECORD;
+use record::Kind;
 
-// What a line leaves: what is lent, and how many bytes its answer line has.
-#[derive(Clone, Copy)]
-pub struct Done {
-    pub lent: Lent,
-    pub length: usize,
-}
-
-fn event(
-    kind: u32,
-    digits: &[u8],
-    tag: &mut [u8; RECORD],
-    memory: &mut [u8],
-    room: &mut [u8],
-    out: &mut [u8],
-) -> usize
-    requires { (length digits.now ≤ 2 * frame_most) × Suits (length room.old) (length out.old) }
-    ensures { result ≤ length out.new }
+// A kind's number in the C interface.
+fn number_of(kind: Kind) -> u32
+    ensures { kind_in result ≡ kind }
 {
-    let mut frame = [0u8; FRAME];
-    let n = text::put_bytes(digits, &mut frame);
-    let result = cabi::uistermo_event(tag, memory, room, kind, &frame[..n]);
-    put_call(result, tag, memory, room, out)
-}
-
-fn load(
-    digits: &[u8],
-    tag: &mut [u8; RECORD],
-    memory: &mut [u8],
-    room: &[u8],
-    out: &mut [u8],
-) -> usize
-    requires { (length digits.now ≤ 2 * image_most) × Suits (length room.now) (length out.old) }
-    ensures { result ≤ length out.new }
-{
-    let mut image = [0u8; IMAGE];
-    let n = text::put_bytes(digits, &mut image);
-    let result = cabi::uistermo_load(tag, &image[..n], memory);
-    put_call(result, tag, memory, room, out)
-}
-
-// "8 bytes, a UID as it travels": its lowest byte first
-fn factory(
-    digits: &[u8],
-    tag: &mut [u8; RECORD],
-    memory: &mut [u8],
-    room: &[u8],
-    out: &mut [u8],
-) -> usize
-    requires { (length digits.now ≤ 2 * uid_length) × Suits (length room.now) (length out.old) }
-    ensures { result ≤ length out.new }
-{
-    let mut uid = [0u8; UID];
-    text::put_bytes(digits, &mut uid);
-    let result = cabi::uistermo_factory(tag, put::number8(&uid, 0), memory);
-    put_call(result, tag, memory, room, out)
-}
-
-fn save_into(tag: &[u8; RECORD], memory: &[u8], image: &mut [u8], out: &mut [u8]) -> usize
-    requires { Suits (length image.old) (length out.old) }
-    ensures { result ≤ length out.new }
-{
-    let result = cabi::uistermo_save(tag, memory, image);
-    put_call(result, tag, memory, image, out)
-}
-
-// "saves into an image of n (0 to 8,300) bytes of EEh"
-fn save(n: usize, tag: &[u8; RECORD], memory: &[u8], out: &mut [u8]) -> usize
-    requires { (n ≤ image_most) × (row_most ≤ length out.old) }
-    ensures { result ≤ length out.new }
-{
-    let mut image = [0xEEu8; IMAGE];
-    save_into(tag, memory, &mut image[..n], out)
-}
-
-fn search_into(uids: &[u64], list: &mut [u64], out: &mut [u8]) -> usize
-    requires { SuitsSearch (length list.old) (length out.old) }
-    ensures { result ≤ length out.new }
-{
-    let result = cabi::uistermo_search(uids, list);
-    put_search(result, uids.len(), list, out)
+    match kind {
+        Kind::FieldOn => 0,
+        Kind::FieldOff => 1,
+        Kind::EndOfFrame => 2,
+        Kind::Request => 3,
+    }
 }
 
 // "a list of n entries (0 to 300), each entry EEEEEEEEEEEEEEEEh, and tags given by their UIDs"
-fn search(n: usize, digits: &[u8], out: &mut [u8]) -> usize
-    requires n_le_entries_most { (n ≤ entries_most) × (length digits.now ≤ 2 * (uid_length * tags_most)) }
-    requires row_most_in_bounds { row_most ≤ length out.old }
-    ensures { result ≤ length out.new }
+#[tactic(auto, using(text::proofs::Texts::bytes_length))]
+fn search(n: usize, digits: &[u8], out: &mut [u8; ROW]) -> usize
+    requires entries { n ≤ entries_most }
+    requires tags { length digits.now ≤ 2 * (uid_length * tags_most) }
+    ensures { result ≤ row_most }
 {
     let mut bytes = [0u8; UIDS];
     let k = text::put_bytes(digits, &mut bytes);
     let mut uids = [0u64; TAGS];
     let tags = put_entries(&bytes[..k], &mut uids);
-    let mut list = [0xEEEE_EEEE_EEEE_EEEEu64; ENTRIES];
-    search_into(&uids[..tags], &mut list[..n], out)
+    let mut entries = [0xEEEE_EEEE_EEEE_EEEEu64; ENTRIES];
+    let list = &mut entries[..n];
+    let result = cabi::uistermo_search(&uids[..tags], list);
+    put_search(result, tags, list, out)
 }
 
-// "the record, exactly 72 bytes, kept as they stand", "bytes into the memory, within it"
-fn take(digits: &[u8], into: &mut [u8], out: &mut [u8]) -> usize
-    requires { (length digits.now ≤ 2 * length into.old) × (row_most ≤ length out.old) }
-    ensures { result ≤ length out.new }
-{
-    text::put_bytes(digits, into);
-    put::copy(b"ok\n", out)
-}
-
-// What a line does, over all that is lent as memory and as room.
-fn act(
-    form: Form,
-    line: &[u8],
-    tag: &mut [u8; RECORD],
-    memory: &mut [u8],
-    room: &mut [u8],
-    out: &mut [u8],
-) -> usize
-    requires { Fits (length memory.old) (length line.now) form × Suits (length room.old) (length out.old) }
-    ensures { result ≤ length out.new }
-{
-    match form {
-        Form::Memory(_) => put::copy(b"ok\n", out),
-        Form::Room(_) => put::copy(b"ok\n", out),
-        Form::Save(n) => save(n, tag, memory, out),
-        Form::Record(from) => take(after(line, from), tag, out),
-        Form::Load(from) => load(after(line, from), tag, memory, room, out),
-        Form::Factory(from) => factory(after(line, from), tag, memory, room, out),
-        Form::Bytes { at, from } => take(after(line, from), &mut memory[at..], out),
-        Form::Event { kind, from } => event(kind, after(line, from), tag, memory, room, out),
-        Form::Search { entries, from } => search(entries, after(line, from), out),
-        Form::NoForm => put::copy(b"?\n", out),
-    }
-}
-
-// A line: what it asks for, what it lends, and what it does.
-pub fn answer(
+// How much is lent, which lies within the buffers.
+#[derive(Clone, Copy)]
+struct Share {
     lent: Lent,
-    line: &[u8],
+    ghost within: { Within lent },
+}
+
+// An event, beside as much of memory and room as is lent. A function over the fields: of a method the borrow checker does not cover two fields that are lent
+// on at once.
+#[tactic(auto, using(text::proofs::Texts::bytes_length))]
+fn event(
+    kind: Kind,
+    digits: &[u8],
+    share: Share,
     tag: &mut [u8; RECORD],
-    memory: &mut [u8],
-    room: &mut [u8],
-    out: &mut [u8],
-) -> Done
-    requires { Within lent × (Buffers (length memory.old) (length room.old) × (row_most ≤ length out.old)) }
-    ensures { Within result.lent × (result.length ≤ length out.new) }
+    memory: &mut [u8; MEMORY],
+    room: &mut [u8; ROOM],
+    out: &mut [u8; ROW],
+) -> usize
+    requires { length digits.now ≤ 2 * frame_most }
+    ensures { result ≤ row_most }
 {
-    let form = form_of(line, lent.memory);
-    let next = lend(form, lent, memory, room);
-    let m = next.memory;
-    let k = next.room;
-    let length = act(form, line, tag, &mut memory[..m], &mut room[..k], out);
-    Done { lent: next, length }
+    let mut frame = [0u8; FRAME];
+    let n = text::put_bytes(digits, &mut frame);
+    let memory = &mut memory[..share.lent.memory];
+    let room = &mut room[..share.lent.room];
+    let given = cabi::uistermo_event(tag, memory, room, number_of(kind), &frame[..n]);
+    put_call(given, tag, memory, room, out)
+}
+
+// The record, the buffers, and how much of them is lent: `caselines::lent::lend` promises of whole buffers, so they stand whole beside it.
+#[derive(Drop)]
+pub struct Desk {
+    tag: [u8; RECORD],
+    memory: [u8; MEMORY],
+    room: [u8; ROOM],
+    share: Share,
+}
+
+impl Desk {
+    // "At the start: memory 2,048 bytes of 0, room 10,243 bytes of EEh, record: factory 16 Kbit tag with UID 0."
+    pub fn new() -> Desk {
+        let mut tag = [0u8; RECORD];
+        let mut memory = [0u8; MEMORY];
+        let lent = Lent {
+            memory: 2048,
+            room: 10243,
+        };
+        cabi::uistermo_factory(&mut tag, 0, &mut memory[..lent.memory]);
+        Desk {
+            tag,
+            memory,
+            room: [0xEE; ROOM],
+            share: Share { lent },
+        }
+    }
+
+    // The answer line of a call that gave a result.
+    fn put_row(&self, given: u64, out: &mut [u8; ROW]) -> usize
+        ensures { result ≤ row_most }
+    {
+        let memory = &self.memory[..self.share.lent.memory];
+        let room = &self.room[..self.share.lent.room];
+        put_call(given, &self.tag, memory, room, out)
+    }
+
+    #[tactic(auto, using(text::proofs::Texts::bytes_length))]
+    fn load(&mut self, digits: &[u8], out: &mut [u8; ROW]) -> usize
+        requires { length digits.now ≤ 2 * image_most }
+        ensures { result ≤ row_most }
+    {
+        let mut image = [0u8; IMAGE];
+        let n = text::put_bytes(digits, &mut image);
+        let mut tag = self.tag;
+        let lent = self.share.lent.memory;
+        let given = cabi::uistermo_load(&mut tag, &image[..n], &mut self.memory[..lent]);
+        self.tag = tag;
+        self.put_row(given, out)
+    }
+
+    // "8 bytes, a UID as it travels": its lowest byte first
+    #[tactic(auto, using(text::proofs::Texts::bytes_length))]
+    fn factory(&mut self, digits: &[u8], out: &mut [u8; ROW]) -> usize
+        requires { length digits.now ≤ 2 * uid_length }
+        ensures { result ≤ row_most }
+    {
+        let mut uid = [0u8; UID];
+        text::put_bytes(digits, &mut uid);
+        let mut tag = self.tag;
+        let lent = self.share.lent.memory;
+        let uid = u64::from_le_bytes(uid);
+        let given = cabi::uistermo_factory(&mut tag, uid, &mut self.memory[..lent]);
+        self.tag = tag;
+        self.put_row(given, out)
+    }
+
+    // "saves into an image of n (0 to 8,300) bytes of EEh"
+    fn save(&self, n: usize, out: &mut [u8; ROW]) -> usize
+        requires { n ≤ image_most }
+        ensures { result ≤ row_most }
+    {
+        let mut bytes = [0xEEu8; IMAGE];
+        let image = &mut bytes[..n];
+        let memory = &self.memory[..self.share.lent.memory];
+        let given = cabi::uistermo_save(&self.tag, memory, image);
+        put_call(given, &self.tag, memory, image, out)
+    }
+
+    // A line: what it asks for, what it lends, and what it does. The answer line goes to the start of out.
+    #[tactic(auto, using(text::proofs::Texts::bytes_length))]
+    pub fn answer(&mut self, line: &[u8], out: &mut [u8; ROW]) -> usize
+        ensures { result ≤ row_most }
+    {
+        let form = form_of(line, self.share.lent.memory);
+        let Some(asked) = form else {
+            return put::copy(b"?\n", out);
+        };
+        match asked {
+            Form::Memory(_) | Form::Room(_) => {
+                let lent = lend(form, self.share.lent, &mut self.memory, &mut self.room);
+                self.share = Share { lent };
+            }
+            Form::Save(n) => return self.save(n, out),
+            Form::Load(digits) => return self.load(digits, out),
+            Form::Factory(digits) => return self.factory(digits, out),
+            Form::Event { kind, digits } => {
+                return event(
+                    kind,
+                    digits,
+                    self.share,
+                    &mut self.tag,
+                    &mut self.memory,
+                    &mut self.room,
+                    out,
+                );
+            }
+            Form::Search { entries, digits } => return search(entries, digits, out),
+            // "the record, exactly 72 bytes, kept as they stand"
+            Form::Record(digits) => {
+                text::put_bytes(digits, &mut self.tag);
+            }
+            // "bytes into the memory, within it"
+            Form::Bytes { at, digits } => {
+                let lent = self.share.lent.memory;
+                text::put_bytes(digits, &mut self.memory[at..lent]);
+            }
+        }
+        put::copy(b"ok\n", out)
+    }
 }

@@ -2,187 +2,57 @@
 // boundary, and its answer line is written when the line is complete.
 #![tactic(auto)]
 
-mod desk; // desk.rt: the lent buffers, and what a line does to them
+mod desk; // desk.rt: the record and the lent buffers, and what a line does to them
 
-ghost use Rattle.std.specs.Prelude.{◌≡◌, ◌≤◌, length};
-ghost use Rattle.caselines.specs.Limits.{line_most};
-ghost use Rattle.casebook.specs.Desk.{Buffers};
-ghost use Rattle.casebook.specs.Progress.{Kept};
+use arrayvec::ArrayVec;
+use caselines::limits::{LINE, ROW};
+use desk::Desk;
+use pieces::Fault;
+use std::io;
 
-use caselines::lent::Lent;
-use caselines::limits::{LINE, MEMORY, ROOM, ROW};
-use packed::RECORD;
-use std::io::Read;
-
-const NEWLINE: u8 = 0x0A;
-
-// How far the program is: the record, what is lent, how much of a line is there, and whether the output took all that was written. The line so
-// far is kept up to LINE bytes, one more than the longest that has a form: a longer line has none, whatever comes.
-#[derive(Clone, Copy)]
-struct Progress {
-    tag: [u8; RECORD],
-    lent: Lent,
-    length: usize,
-    open: bool,
+// The desk, and the line so far. It is kept up to LINE bytes, one more than the longest that has a form: a longer line has none, whatever comes.
+#[derive(Drop)]
+struct Session {
+    desk: Desk,
+    line: ArrayVec<u8, LINE>,
 }
 
-fn show(rt: &impl Print, out: &[u8], n: usize) -> bool
-    requires { n ≤ length out.now }
-{
-    rt.write_all(&out[..n]).is_ok()
-}
-
-// The line so far ends: it is answered.
-fn end_line(
-    rt: &impl Print,
-    p: Progress,
-    line: &[u8],
-    memory: &mut [u8],
-    room: &mut [u8],
-) -> Progress
-    requires { Kept p × ((length line.now ≡ line_most) × Buffers (length memory.old) (length room.old)) }
-    ensures { Kept result }
-{
-    let n = p.length;
-    let lent = p.lent;
-    let mut tag = p.tag;
-    let mut out = [0u8; ROW];
-    let done = desk::answer(lent, &line[..n], &mut tag, memory, room, &mut out);
-    let next = done.lent;
-    let open = show(rt, &out, done.length);
-    Progress {
-        tag,
-        lent: next,
-        length: 0,
-        open,
+impl Session {
+    // The line so far ends: it is answered.
+    fn end_line(&mut self, rt: &impl Print) -> io::Result<()> {
+        let mut out = [0u8; ROW];
+        let n = self.desk.answer(&self.line, &mut out);
+        self.line.clear();
+        rt.write_all(&out[..n])
     }
-}
 
-// One byte more of the line so far.
-fn add_byte(p: Progress, byte: u8, line: &mut [u8; LINE]) -> Progress
-    requires { Kept p }
-    ensures { Kept result }
-{
-    let at = p.length;
-    if at < LINE {
-        line[at] = byte;
-        return Progress {
-            length: at + 1,
-            ..p
-        };
-    }
-    p
-}
-
-fn feed(
-    rt: &impl Print,
-    p: Progress,
-    byte: u8,
-    line: &mut [u8; LINE],
-    memory: &mut [u8; MEMORY],
-    room: &mut [u8; ROOM],
-) -> Progress
-    requires { Kept p }
-    ensures { Kept result }
-{
-    if byte == NEWLINE {
-        return end_line(rt, p, line, memory, room);
-    }
-    add_byte(p, byte, line)
-}
-
-// A piece of the input, or as much of it as the output takes answers to.
-fn piece(
-    rt: &impl Print,
-    start: Progress,
-    bytes: &[u8],
-    line: &mut [u8; LINE],
-    memory: &mut [u8; MEMORY],
-    room: &mut [u8; ROOM],
-) -> Progress
-    requires { Kept start }
-    ensures { Kept result }
-{
-    let mut p = start;
-    let mut i = 0;
-    while i < bytes.len() {
-        p = feed(rt, p, bytes[i], line, memory, room);
-        if !p.open {
-            return p;
+    fn feed(&mut self, rt: &impl Print, byte: u8) -> io::Result<()> {
+        if byte == b'\n' {
+            return self.end_line(rt);
         }
-        i += 1;
-    }
-    p
-}
-
-// The input to its end, or to a read or a write that fails. A proved loop has to end, so it has as many turns as no run takes.
-fn run(
-    rt: &impl Print,
-    input: &mut impl Read,
-    start: Progress,
-    line: &mut [u8; LINE],
-    memory: &mut [u8; MEMORY],
-    room: &mut [u8; ROOM],
-) -> Progress
-    requires { Kept start }
-    ensures { Kept result }
-{
-    let mut p = start;
-    let mut buffer = [0u8; 4096];
-    for _ in 0..u64::MAX {
-        let Ok(n) = input.read(&mut buffer) else {
-            return p;
-        };
-        if n == 0 {
-            return p;
+        if !self.line.is_full() {
+            self.line.push(byte);
         }
-        p = piece(rt, p, &buffer[..n], line, memory, room);
-        if !p.open {
-            return p;
+        Ok(())
+    }
+
+    // A last line may lack its newline.
+    fn finish(&mut self, rt: &impl Print) -> io::Result<()> {
+        if self.line.is_empty() {
+            return Ok(());
         }
-    }
-    p
-}
-
-// A last line may lack its newline.
-fn last(
-    rt: &impl Print,
-    p: Progress,
-    line: &[u8; LINE],
-    memory: &mut [u8; MEMORY],
-    room: &mut [u8; ROOM],
-)
-    requires { Kept p }
-{
-    if p.open & (0 < p.length) {
-        end_line(rt, p, line, memory, room);
+        self.end_line(rt)
     }
 }
 
-// "At the start: memory 2,048 bytes of 0, room 10,243 bytes of EEh, record: factory 16 Kbit tag with UID 0."
+// A read that fails ends the input; after a write that failed nothing more is written.
 fn main(rt: HostRuntime) {
-    let mut line = [0u8; LINE];
-    let mut tag = [0u8; RECORD];
-    let mut memory = [0u8; MEMORY];
-    let mut room = [0xEEu8; ROOM];
-    cabi::uistermo_factory(&mut tag, 0, &mut memory[..2048]);
-    let lent = Lent {
-        memory: 2048,
-        room: 10243,
+    let mut session = Session {
+        desk: Desk::new(),
+        line: ArrayVec::new(),
     };
-    let start = Progress {
-        tag,
-        lent,
-        length: 0,
-        open: true,
-    };
-    let p = run(
-        &rt,
-        &mut rt.stdin(),
-        start,
-        &mut line,
-        &mut memory,
-        &mut room,
-    );
-    last(&rt, p, &line, &mut memory, &mut room);
+    let ended = pieces::each_byte(&mut rt.stdin(), |byte| session.feed(&rt, byte));
+    if !matches!(ended, Err(Fault::Write(_))) {
+        let _ = session.finish(&rt);
+    }
 }

@@ -9,7 +9,7 @@ use lib.ListN.{length, get_or, take, drop, drop_of_length-le, length-append}
 use lib.Seq.{drop-cons}
 use Rattle.put.specs.Put.{Put}
 use Rattle.put.specs.Number.{number_at, bytes_of}
-use Rattle.put.proofs.Written.{Written, Next, none, sum, room, whole}
+use Rattle.put.proofs.Written.{Written, Next, room, whole}
 use Rattle.put.proofs.Numbers.{length_bytes}
 use Rattle.caselines.specs.Limits.{uid_length}
 use Rattle.caselines.specs.Entries.{entries_from, entries_in, entry_bytes}
@@ -24,10 +24,6 @@ entries_length (suc k) at bytes = ap suc (entries_length k (at + uid_length) byt
 pub entries_most_lem : (bytes : List ℕ) {n : ℕ} → length bytes ≤ uid_length * n → length (entries_in bytes) ≤ n
 entries_most_lem bytes h = omega (arith, entries_length (length bytes / uid_length) 0 bytes)
 
-pub no_entries : (bytes out : List ℕ) → length (entries_in bytes) ≤ length out
-    → Written (entries_in bytes) (entries_from (length bytes / uid_length - 0) (uid_length * 0) bytes) out out 0
-no_entries bytes out h = let e : length bytes / uid_length - 0 ≡ length bytes / uid_length = omega arith in rw e (none h)
-
 module _ {L out₀ out : List ℕ} {i : ℕ} (n : ℕ) (bytes : List ℕ) (w : Written L (entries_from (n - i) (uid_length * i) bytes) out₀ out i) where
   -- the entry that comes next, and the end
   pub entry : i < n → Next L (number_at uid_length bytes (uid_length * i) ∷ []) (entries_from (n - (i + 1)) (uid_length * (i + 1)) bytes) out₀ out i
@@ -37,9 +33,9 @@ module _ {L out₀ out : List ℕ} {i : ℕ} (n : ℕ) (bytes : List ℕ) (w : W
       let f : uid_length * (i + 1) ≡ uid_length * i + uid_length = omega arith in
       record { written = rw f (rw e at w) }
 
-  pub entries_end : n ≤ i → Put L out₀ out i
+  pub entries_end : i ≡ n → Put L out₀ out n
   unfolding entries_from
-  entries_end h = let e : n - i ≡ 0 = omega arith in whole (rw e at w)
+  entries_end h = let e : n - i ≡ 0 = omega arith in rw (← h) (whole (rw e at w))
 
 -- ---- bytes, of entries
 
@@ -55,10 +51,6 @@ module _ {L out₀ out : List ℕ} {at : ℕ} (i : ℕ) (s : List ℕ) (w : Writ
 
   pub eight_room : i < length s → uid_length ≤ length (take (length out - at) (drop at out))
   eight_room h = omega (arith, room (eight h), length_bytes uid_length (get_or s i 0))
-
-  -- the place after them
-  pub eight_sum : {xs ys : List ℕ} {k : ℕ} → i < length s → Put (bytes_of uid_length (get_or s i 0)) xs ys k → at + k ≤ length out
-  eight_sum h p = omega (arith, sum (eight h), p.count)
 
   pub entry_bytes_end : length s ≤ i → Put L out₀ out at
   unfolding entry_bytes

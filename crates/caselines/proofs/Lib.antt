@@ -1,4 +1,3 @@
-pub mod Chain
 pub mod Figures
 pub mod Eights
 pub mod Rows

@@ -1,20 +1,12 @@
 // What a line asks for.
-ghost use Rattle.std.specs.Prelude.{◌≡◌, ◌≤◌, drop};
-ghost use Rattle.caselines.specs.Limits.{memory_most, room_most, image_most};
-ghost use Rattle.caselines.specs.Form.{begins, number_from, number_in, memory_of, room_of, save_of, is_hex, record_form, request_form, load_form};
-ghost use Rattle.caselines.specs.Form.{factory_form, space_in, placed_form, bytes_form, tags_form, search_form, hex_form, number_form, form_of};
+ghost use Rattle.std.specs.Prelude.{◌≡◌, ℕ, ◌≤◌, MatchOption, IfSome, Some, None, option_map};
+ghost use Rattle.caselines.specs.Limits.{memory_most};
+ghost use Rattle.caselines.specs.Form.{asked, Fits, number_from, number_in, is_hex, record_form, request_form, load_form, factory_form};
+ghost use Rattle.caselines.specs.Form.{space_in, number_and_digits, bytes_form, search_form, hex_form, number_form, form_of};
 
 use super::limits::{ENTRIES, FRAME, IMAGE, MEMORY, ROOM, UID, UIDS};
 use packed::RECORD;
-
-// The kinds of an event, as cabi numbers them.
-const ON: u32 = 0;
-
-const OFF: u32 = 1;
-
-const END_OF_FRAME: u32 = 2;
-
-const REQUEST: u32 = 3;
+use record::Kind;
 
 // Two digits a byte.
 const RECORD_DIGITS: usize = 2 * RECORD;
@@ -27,278 +19,187 @@ const UID_DIGITS: usize = 2 * UID;
 
 const UIDS_DIGITS: usize = 2 * UIDS;
 
+// The lines of the table, each with the number that it names and the digits that end it.
 #[derive(Clone, Copy)]
-pub enum Number {
-    Of(usize),
-    NoNumber,
-}
-
-// The lines of the table, with the number that a line names, or where in the line its digits begin: they end it.
-#[derive(Clone, Copy)]
-pub enum Form {
+pub enum Form<'a> {
     Memory(usize),
     Room(usize),
     Save(usize),
-    Record(usize),
-    Load(usize),
-    Factory(usize),
-    Bytes { at: usize, from: usize },
-    Event { kind: u32, from: usize },
-    Search { entries: usize, from: usize },
-    NoForm,
+    Record(&'a [u8]),
+    Load(&'a [u8]),
+    Factory(&'a [u8]),
+    Bytes { at: usize, digits: &'a [u8] },
+    Event { kind: Kind, digits: &'a [u8] },
+    Search { entries: usize, digits: &'a [u8] },
 }
 
-// What follows the first n bytes.
-pub fn after(s: &[u8], n: usize) -> &[u8]
-    ensures { result.now ≡ drop n s.now }
-{
-    if s.len() < n {
-        return &s[..0];
-    }
-    &s[n..]
-}
-
-fn begins_with(line: &[u8], word: &[u8]) -> bool
-    ensures { result ≡ begins line.now word.now }
-{
-    let n = word.len();
-    if line.len() < n {
-        return false;
-    }
-    text::is_same(&line[..n], word)
-}
-
-fn number_from(s: &[u8], most: usize) -> Number
+#[tactic(auto, using(crate::proofs::Figures::figures))]
+fn number_from(figures: &[u8], most: usize) -> Option<usize>
     requires { most ≤ 0xFFFFFFFF }
-    ensures { result ≡ number_from most 0 s.now }
+    ensures value { result ≡ number_from most 0 figures.now }
+    ensures within { IfSome result (λ n. n ≤ most) }
 {
     let mut n = 0;
-    let mut i = 0;
-    while i < s.len() {
-        let d = s[i];
-        if !text::is_figure(d) {
-            return Number::NoNumber;
+    for &figure in figures {
+        if !text::is_figure(figure) {
+            return None;
         }
-        n = 10 * n + (d - 0x30) as usize;
+        n = 10 * n + usize::from(figure - b'0');
         if most < n {
-            return Number::NoNumber;
+            return None;
         }
-        i += 1;
     }
-    Number::Of(n)
+    Some(n)
 }
 
 // "Numbers have no leading zero."
-fn number_in(s: &[u8], most: usize) -> Number
+#[tactic(auto, unfolding(crate::specs::Form::number_in))]
+fn number_in(s: &[u8], most: usize) -> Option<usize>
     requires { most ≤ 0xFFFFFFFF }
-    ensures { result ≡ number_in most s.now }
+    ensures value { result ≡ number_in most s.now }
+    ensures within { IfSome result (λ n. n ≤ most) }
 {
-    if s.len() == 0 {
-        return Number::NoNumber;
-    }
-    if (1 < s.len()) & (s[0] == 0x30) {
-        return Number::NoNumber;
-    }
-    number_from(s, most)
-}
-
-fn memory_form(s: &[u8]) -> Form
-    ensures { result ≡ memory_of (number_in memory_most s.now) }
-{
-    let number = number_in(s, MEMORY);
-    match number {
-        Number::Of(n) => Form::Memory(n),
-        Number::NoNumber => Form::NoForm,
-    }
-}
-
-fn room_form(s: &[u8]) -> Form
-    ensures { result ≡ room_of (number_in room_most s.now) }
-{
-    let number = number_in(s, ROOM);
-    match number {
-        Number::Of(n) => Form::Room(n),
-        Number::NoNumber => Form::NoForm,
-    }
-}
-
-fn save_form(s: &[u8]) -> Form
-    ensures { result ≡ save_of (number_in image_most s.now) }
-{
-    let number = number_in(s, IMAGE);
-    match number {
-        Number::Of(n) => Form::Save(n),
-        Number::NoNumber => Form::NoForm,
+    match s {
+        [] | [b'0', _, ..] => None,
+        _ => number_from(s, most),
     }
 }
 
 fn is_hex(s: &[u8], most: usize) -> bool
     ensures { result ≡ is_hex most s.now }
 {
-    ((s.len() % 2 == 0) & (s.len() <= most)) & text::all_digits(s)
+    s.len() % 2 == 0 && s.len() <= most && text::all_digits(s)
 }
 
-fn record_form(s: &[u8]) -> Form
-    ensures { result ≡ record_form s.now }
+// What ends each line of hex, a function a line as the definition has one: they differ in the form they make and in what is a right length.
+fn record_form(s: &[u8]) -> Option<Form<'_>>
+    ensures value { option_map asked result ≡ record_form s.now }
+    ensures fits { (memory : ℕ) → IfSome result (λ f. Fits memory (asked f)) }
 {
-    if (s.len() == RECORD_DIGITS) & is_hex(s, RECORD_DIGITS) {
-        return Form::Record(4);
-    }
-    Form::NoForm
+    (s.len() == RECORD_DIGITS && is_hex(s, RECORD_DIGITS)).then_some(Form::Record(s))
 }
 
-fn request_form(s: &[u8]) -> Form
-    ensures { result ≡ request_form s.now }
+fn request_form(s: &[u8]) -> Option<Form<'_>>
+    ensures value { option_map asked result ≡ request_form s.now }
+    ensures fits { (memory : ℕ) → IfSome result (λ f. Fits memory (asked f)) }
 {
-    if is_hex(s, FRAME_DIGITS) {
-        return Form::Event {
-            kind: REQUEST,
-            from: 4,
-        };
-    }
-    Form::NoForm
+    is_hex(s, FRAME_DIGITS).then_some(Form::Event {
+        kind: Kind::Request,
+        digits: s,
+    })
 }
 
-fn load_form(s: &[u8]) -> Form
-    ensures { result ≡ load_form s.now }
+fn load_form(s: &[u8]) -> Option<Form<'_>>
+    ensures value { option_map asked result ≡ load_form s.now }
+    ensures fits { (memory : ℕ) → IfSome result (λ f. Fits memory (asked f)) }
 {
-    if is_hex(s, IMAGE_DIGITS) {
-        return Form::Load(5);
-    }
-    Form::NoForm
+    is_hex(s, IMAGE_DIGITS).then_some(Form::Load(s))
 }
 
-fn factory_form(s: &[u8]) -> Form
-    ensures { result ≡ factory_form s.now }
+fn factory_form(s: &[u8]) -> Option<Form<'_>>
+    ensures value { option_map asked result ≡ factory_form s.now }
+    ensures fits { (memory : ℕ) → IfSome result (λ f. Fits memory (asked f)) }
 {
-    if (s.len() == UID_DIGITS) & is_hex(s, UID_DIGITS) {
-        return Form::Factory(8);
-    }
-    Form::NoForm
+    (s.len() == UID_DIGITS && is_hex(s, UID_DIGITS)).then_some(Form::Factory(s))
 }
 
-fn space_in(s: &[u8]) -> usize
+fn space_in(s: &[u8]) -> Option<usize>
     ensures { result ≡ space_in s.now }
 {
-    let mut i = 0;
-    while i < s.len() {
-        if s[i] == 0x20 {
-            return i;
-        }
-        i += 1;
-    }
-    i
+    s.iter().position(|b| *b == b' ')
 }
 
-fn placed_form(s: &[u8], memory: usize, at: usize, from: usize) -> Form
-    requires { (at ≤ memory) × (memory ≤ memory_most) }
-    ensures { result ≡ placed_form memory at from s.now }
+// A number of its range, and what follows the space after it.
+#[tactic(auto, unfolding(crate::specs::Form::number_and_digits))]
+fn number_and_digits(s: &[u8], most: usize) -> Option<(usize, &[u8])>
+    requires { most ≤ 0xFFFFFFFF }
+    ensures value { MatchOption result (number_and_digits most s.now ≡ None)
+        (λ p. number_and_digits most s.now ≡ Some (p.0, p.1.now)) }
+    ensures within { IfSome result (λ p. p.0 ≤ most) }
 {
-    if is_hex(s, 2 * (memory - at)) {
-        return Form::Bytes { at, from };
-    }
-    Form::NoForm
+    let space = space_in(s)?;
+    let number = number_in(&s[..space], most)?;
+    Some((number, &s[space + 1..]))
 }
 
-fn bytes_form(s: &[u8], memory: usize) -> Form
+// The bound of the memory is the public `form_of`'s, handed down to this function, as those of numbers are to the ones above.
+#[tactic(auto, unfolding(crate::specs::Form::bytes_form))]
+fn bytes_form(s: &[u8], memory: usize) -> Option<Form<'_>>
     requires { memory ≤ memory_most }
-    ensures { result ≡ bytes_form memory s.now }
+    ensures value { option_map asked result ≡ bytes_form memory s.now }
+    ensures fits { IfSome result (λ f. Fits memory (asked f)) }
 {
-    let k = space_in(s);
-    if s.len() <= k {
-        return Form::NoForm;
-    }
-    let number = number_in(&s[..k], memory);
-    match number {
-        Number::Of(at) => placed_form(after(s, k + 1), memory, at, k + 5),
-        Number::NoNumber => Form::NoForm,
-    }
+    let (at, digits) = number_and_digits(s, memory)?;
+    is_hex(digits, 2 * (memory - at)).then_some(Form::Bytes { at, digits })
 }
 
-fn tags_form(s: &[u8], entries: usize, from: usize) -> Form
-    ensures { result ≡ tags_form entries from s.now }
+#[tactic(auto, unfolding(crate::specs::Form::search_form))]
+fn search_form(s: &[u8]) -> Option<Form<'_>>
+    ensures value { option_map asked result ≡ search_form s.now }
+    ensures fits { (memory : ℕ) → IfSome result (λ f. Fits memory (asked f)) }
 {
-    if (s.len() % UID_DIGITS == 0) & is_hex(s, UIDS_DIGITS) {
-        return Form::Search { entries, from };
-    }
-    Form::NoForm
+    let (entries, digits) = number_and_digits(s, ENTRIES)?;
+    let is_list = digits.len() % UID_DIGITS == 0 && is_hex(digits, UIDS_DIGITS);
+    is_list.then_some(Form::Search { entries, digits })
 }
 
-fn search_form(s: &[u8]) -> Form
-    ensures { result ≡ search_form s.now }
-{
-    let k = space_in(s);
-    if s.len() <= k {
-        return Form::NoForm;
-    }
-    let number = number_in(&s[..k], ENTRIES);
-    match number {
-        Number::Of(n) => tags_form(after(s, k + 1), n, k + 8),
-        Number::NoNumber => Form::NoForm,
-    }
-}
-
-#[tactic(auto, unfolding(crate::specs::Form::hex_form, text::specs::Text::bytes_of_text))]
-fn hex_form(line: &[u8], memory: usize) -> Form
+#[tactic(auto, unfolding(crate::specs::Form::hex_form))]
+fn hex_form(line: &[u8], memory: usize) -> Option<Form<'_>>
     requires { memory ≤ memory_most }
-    ensures { result ≡ hex_form memory line.now }
+    ensures value { option_map asked result ≡ hex_form memory line.now }
+    ensures fits { IfSome result (λ f. Fits memory (asked f)) }
 {
-    if begins_with(line, b"REC ") {
-        return record_form(after(line, 4));
+    if let Some(s) = line.strip_prefix(b"REC ") {
+        return record_form(s);
     }
-    if begins_with(line, b"PUT ") {
-        return bytes_form(after(line, 4), memory);
+    if let Some(s) = line.strip_prefix(b"PUT ") {
+        return bytes_form(s, memory);
     }
-    if begins_with(line, b"REQ ") {
-        return request_form(after(line, 4));
+    if let Some(s) = line.strip_prefix(b"REQ ") {
+        return request_form(s);
     }
-    if begins_with(line, b"LOAD ") {
-        return load_form(after(line, 5));
+    if let Some(s) = line.strip_prefix(b"LOAD ") {
+        return load_form(s);
     }
-    if begins_with(line, b"FACTORY ") {
-        return factory_form(after(line, 8));
+    if let Some(s) = line.strip_prefix(b"FACTORY ") {
+        return factory_form(s);
     }
-    if begins_with(line, b"SEARCH ") {
-        return search_form(after(line, 7));
+    if let Some(s) = line.strip_prefix(b"SEARCH ") {
+        return search_form(s);
     }
-    Form::NoForm
+    None
 }
 
-#[tactic(auto, unfolding(crate::specs::Form::number_form, text::specs::Text::bytes_of_text))]
-fn number_form(line: &[u8], memory: usize) -> Form
+#[tactic(auto, unfolding(crate::specs::Form::number_form))]
+fn number_form(line: &[u8], memory: usize) -> Option<Form<'_>>
     requires { memory ≤ memory_most }
-    ensures { result ≡ number_form memory line.now }
+    ensures value { option_map asked result ≡ number_form memory line.now }
+    ensures fits { IfSome result (λ f. Fits memory (asked f)) }
 {
-    if begins_with(line, b"MEM ") {
-        return memory_form(after(line, 4));
+    if let Some(s) = line.strip_prefix(b"MEM ") {
+        return Some(Form::Memory(number_in(s, MEMORY)?));
     }
-    if begins_with(line, b"ROOM ") {
-        return room_form(after(line, 5));
+    if let Some(s) = line.strip_prefix(b"ROOM ") {
+        return Some(Form::Room(number_in(s, ROOM)?));
     }
-    if begins_with(line, b"SAVE ") {
-        return save_form(after(line, 5));
+    if let Some(s) = line.strip_prefix(b"SAVE ") {
+        return Some(Form::Save(number_in(s, IMAGE)?));
     }
     hex_form(line, memory)
 }
 
 // A line, beside a memory of so many bytes.
-#[tactic(auto, unfolding(crate::specs::Form::form_of, text::specs::Text::bytes_of_text))]
-pub fn form_of(line: &[u8], memory: usize) -> Form
+#[tactic(auto, unfolding(crate::specs::Form::form_of))]
+pub fn form_of(line: &[u8], memory: usize) -> Option<Form<'_>>
     requires { memory ≤ memory_most }
-    ensures { result ≡ form_of memory line.now }
+    ensures value { option_map asked result ≡ form_of memory line.now }
+    ensures fits { IfSome result (λ f. Fits memory (asked f)) }
 {
-    let from = line.len();
-    if text::is_same(line, b"ON") {
-        return Form::Event { kind: ON, from };
-    }
-    if text::is_same(line, b"OFF") {
-        return Form::Event { kind: OFF, from };
-    }
-    if text::is_same(line, b"EOF") {
-        return Form::Event {
-            kind: END_OF_FRAME,
-            from,
-        };
-    }
-    number_form(line, memory)
+    let kind = match line {
+        b"ON" => Kind::FieldOn,
+        b"OFF" => Kind::FieldOff,
+        b"EOF" => Kind::EndOfFrame,
+        _ => return number_form(line, memory),
+    };
+    Some(Form::Event { kind, digits: &[] })
 }

@@ -1,5 +1,5 @@
 // The answer line of a call: "`number length answer record memory room`", and of a search: "`number requests list room`".
-ghost use Rattle.std.specs.Prelude.{◌≤◌, min, ◌≡◌, length};
+ghost use Rattle.std.specs.Prelude.{◌≤◌, ◌≡◌, length};
 ghost use Rattle.put.specs.Put.{Put};
 ghost use Rattle.text.specs.Text.{decimal_of};
 ghost use Rattle.packed.specs.Result.{refusal_in};
@@ -13,16 +13,11 @@ use super::entries::put_entry_bytes;
 use super::limits::LIST;
 use packed::RECORD;
 
-const SPACE: u8 = 0x20;
-
-const FIVE: u8 = 0x35;
-
-const COLON: u8 = 0x3A;
-
-const NEWLINE: u8 = 0x0A;
+// Each function here puts a text at the start of out and says how long it is. A writer that held out and the place in it would be no plainer: `Put`
+// also promises that all of out past the text stays, which the writer's contract would have to carry from text to text.
 
 // What stands for no bytes.
-const NONE: u8 = 0x2D;
+const NONE: u8 = b'-';
 
 // A number in decimal, and a space.
 fn put_number(n: u64, out: &mut [u8]) -> usize
@@ -30,7 +25,7 @@ fn put_number(n: u64, out: &mut [u8]) -> usize
     ensures { Put (field 0x20 (decimal_of n)) out.old out.new result }
 {
     let at = text::put_decimal(n, out);
-    out[at] = SPACE;
+    out[at] = b' ';
     at + 1
 }
 
@@ -48,8 +43,7 @@ fn put_field(bytes: &[u8], end: u8, out: &mut [u8]) -> usize
 fn crc_high(bytes: &[u8]) -> [u8; 2]
     ensures { result ≡ crc_high bytes.now }
 {
-    let c = crc::crc(bytes);
-    [(c / 256) as u8, (c % 256) as u8]
+    crc::crc(bytes).to_be_bytes()
 }
 
 // "`5a:0`, `5d:15`", and a space.
@@ -57,8 +51,7 @@ fn put_fault(letter: u8, place: u64, out: &mut [u8]) -> usize
     requires { length (field 0x20 (fault_text letter place)) ≤ length out.old }
     ensures { Put (field 0x20 (fault_text letter place)) out.old out.new result }
 {
-    let first = [FIVE, letter, COLON];
-    let at = put::copy(&first, out);
+    let at = put::copy(&[b'5', letter, b':'], out);
     at + put_number(place, &mut out[at..])
 }
 
@@ -66,10 +59,11 @@ fn put_fault(letter: u8, place: u64, out: &mut [u8]) -> usize
 fn is_lettered(number: u64) -> bool
     ensures { result ≡ is_lettered number }
 {
-    (0x5A <= number) & (number <= 0x5E)
+    (0x5A..=0x5E).contains(&number)
 }
 
 // A number, 5a to 5e "with their place, also where it is 0", "all others have none"; and a space.
+#[tactic(auto, unfolding(crate::specs::Row::column_text))]
 fn put_column(number: u64, place: u64, out: &mut [u8]) -> usize
     requires { length (field 0x20 (column_text number place)) ≤ length out.old }
     ensures { Put (field 0x20 (column_text number place)) out.old out.new result }
@@ -77,7 +71,7 @@ fn put_column(number: u64, place: u64, out: &mut [u8]) -> usize
     if !is_lettered(number) {
         return put_number(number, out);
     }
-    put_fault(0x61 + (number - 0x5A) as u8, place, out)
+    put_fault(b'a' + (number - 0x5A) as u8, place, out)
 }
 
 // The number of a result, in 16 bits of it.
@@ -88,6 +82,7 @@ fn refusal_in(res: u64) -> u64
 }
 
 // Number, with its place, and length of a result.
+#[tactic(auto, unfolding(crate::specs::Row::numbers_text))]
 fn put_numbers(res: u64, out: &mut [u8]) -> usize
     requires { length (numbers_text res) ≤ length out.old }
     ensures { Put (numbers_text res) out.old out.new result }
@@ -96,11 +91,12 @@ fn put_numbers(res: u64, out: &mut [u8]) -> usize
     at + put_number(res % 0x1_0000_0000, &mut out[at..])
 }
 
+#[tactic(auto, unfolding(crate::specs::Row::pair_text))]
 fn put_pair(a: &[u8], b: &[u8], end: u8, out: &mut [u8]) -> usize
     requires { length (pair_text end a.now b.now) ≤ length out.old }
     ensures { Put (pair_text end a.now b.now) out.old out.new result }
 {
-    let at = put_field(a, SPACE, out);
+    let at = put_field(a, b' ', out);
     at + put_field(b, end, &mut out[at..])
 }
 
@@ -110,7 +106,7 @@ fn put_sums(memory: &[u8], room: &[u8], out: &mut [u8]) -> usize
 {
     let first = crc_high(memory);
     let second = crc_high(room);
-    put_pair(&first, &second, NEWLINE, out)
+    put_pair(&first, &second, b'\n', out)
 }
 
 fn put_rest(answer: &[u8], tag: &[u8], memory: &[u8], room: &[u8], out: &mut [u8]) -> usize
@@ -118,11 +114,12 @@ fn put_rest(answer: &[u8], tag: &[u8], memory: &[u8], room: &[u8], out: &mut [u8
     ensures { Put (rest_text answer.now tag.now memory.now room.now)
         out.old out.new result }
 {
-    let at = put_pair(answer, tag, SPACE, out);
+    let at = put_pair(answer, tag, b' ', out);
     at + put_sums(memory, room, &mut out[at..])
 }
 
 // The whole line. `tag` is the record's bytes.
+#[tactic(auto, unfolding(crate::specs::Row::row_text))]
 pub fn put_row(
     res: u64,
     answer: &[u8],
@@ -139,23 +136,19 @@ pub fn put_row(
     at + put_rest(answer, tag, memory, room, &mut out[at..])
 }
 
-fn least(a: usize, b: usize) -> usize
-    ensures { result ≡ min a b }
-{
-    if a < b { a } else { b }
-}
-
 // The line of a call that gave a result. What it answered stands at the start of room. A length past the end of room, which no call gives,
 // would show all of it.
+#[tactic(auto, unfolding(crate::specs::Row::call_text), using(crate::proofs::Rows::longest))]
 pub fn put_call(res: u64, tag: &[u8; RECORD], memory: &[u8], room: &[u8], out: &mut [u8]) -> usize
     requires { Suits (length room.now) (length out.old) }
     ensures { Put (call_text res tag.now memory.now room.now) out.old out.new result }
 {
-    let n = least((res % 0x1_0000_0000) as usize, room.len());
+    let n = room.len().min((res % 0x1_0000_0000) as usize);
     put_row(res, &room[..n], tag, memory, room, out)
 }
 
 // "the CRC of all bytes of the list, each entry lowest byte first"
+#[tactic(auto, using(crate::proofs::Eights::entry_bytes_length))]
 fn crc_entries(list: &[u64]) -> [u8; 2]
     requires { length list.now ≤ entries_most }
     ensures { result ≡ crc_high (entry_bytes list.now) }
@@ -166,6 +159,7 @@ fn crc_entries(list: &[u64]) -> [u8; 2]
 }
 
 // "the UIDs found as they travel, `-` for none", and a space.
+#[tactic(auto, using(crate::proofs::Eights::entry_bytes_length))]
 fn put_found(found: &[u64], out: &mut [u8]) -> usize
     requires found_len_bound { length found.now ≤ entries_most }
     requires found_in_bounds { length (field 0x20 (shown (entry_bytes found.now))) ≤ length out.old }
@@ -173,9 +167,10 @@ fn put_found(found: &[u64], out: &mut [u8]) -> usize
 {
     let mut bytes = [0u8; LIST];
     let n = put_entry_bytes(found, &mut bytes);
-    put_field(&bytes[..n], SPACE, out)
+    put_field(&bytes[..n], b' ', out)
 }
 
+#[tactic(auto, unfolding(crate::specs::Row::pair_text))]
 fn put_list(found: &[u64], list: &[u64], out: &mut [u8]) -> usize
     requires suits_lists { SuitsLists (length found.now) (length list.now) }
     requires list_in_bounds { length (list_text found.now list.now) ≤ length out.old }
@@ -183,10 +178,11 @@ fn put_list(found: &[u64], list: &[u64], out: &mut [u8]) -> usize
 {
     let at = put_found(found, out);
     let sum = crc_entries(list);
-    at + put_field(&sum, NEWLINE, &mut out[at..])
+    at + put_field(&sum, b'\n', &mut out[at..])
 }
 
 // The whole line of a search.
+#[tactic(auto, unfolding(crate::specs::Row::search_row_text))]
 fn put_search_row(res: u64, found: &[u64], list: &[u64], out: &mut [u8]) -> usize
     requires suits_lists { SuitsLists (length found.now) (length list.now) }
     requires list_in_bounds { length (search_row_text res found.now list.now) ≤ length out.old }
@@ -197,6 +193,7 @@ fn put_search_row(res: u64, found: &[u64], list: &[u64], out: &mut [u8]) -> usiz
 }
 
 // The line of a search over so many tags that gave a result and a list. Only a refused search has more tags than entries.
+#[tactic(auto, unfolding(crate::specs::Row::search_text), using(crate::proofs::Rows::longest))]
 pub fn put_search(res: u64, tags: usize, list: &[u64], out: &mut [u8]) -> usize
     requires { SuitsSearch (length list.now) (length out.old) }
     ensures { Put (search_text res tags list.now) out.old out.new result }
@@ -204,6 +201,6 @@ pub fn put_search(res: u64, tags: usize, list: &[u64], out: &mut [u8]) -> usize
     if refusal_in(res) != 0 {
         return put_search_row(res, &list[..0], list, out);
     }
-    let n = least(tags, list.len());
+    let n = list.len().min(tags);
     put_search_row(res, &list[..n], list, out)
 }

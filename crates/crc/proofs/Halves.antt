@@ -9,9 +9,9 @@ use lib.Bits.{bit_xor, xor_zero_r, xor_shr, xor_mod}
 use lib.Dec.{eqb}
 use lib.ListN.{get_or, get_or-map}
 use lib.Pow.{pow_pos, shr-shr, field, mod-mod-pow}
-use Rattle.std.specs.Prelude.{if◌then◌else◌}
+use Rattle.std.specs.Prelude.{◌-◌, List, [], ◌∷◌, fold, if◌then◌else◌}
 use Rattle.put.proofs.Xor.{xor_assoc}
-use Rattle.crc.specs.Crc.{crc_bit, crc_bits, crc_byte}
+use Rattle.crc.specs.Crc.{crc_bit, crc_bits, crc_byte, crc_from, crc_of}
 use Rattle.crc.specs.Halves.{up_from, sixteen_numbers, half_by, byte_by}
 
 -- ---- the rule of the sixteen numbers, at each of them
@@ -67,3 +67,16 @@ half_is c = rw (number_at_lem (c % 16) (omega arith)) (sym (bits_apart 4 c))
 pub byte_is : (c b : ℕ) → byte_by sixteen_numbers c b ≡ crc_byte c b
 unfolding byte_by crc_byte crc_bits
 byte_is c b = rw (half_is (bit_xor c b)) (half_is (crc_bits 4 (bit_xor c b)))
+
+-- ---- all bytes
+
+-- from any register, as the library folds over a list
+from_is : (c : ℕ) (s : List ℕ) → fold (byte_by sixteen_numbers) c s ≡ crc_from c s
+unfolding crc_from
+from_is c [] = refl
+from_is c (b ∷ s) = rw (byte_is c b) (from_is (crc_byte c b) s)
+
+-- the CRC of all
+pub by_halves : (s : List ℕ) → crc_of s ≡ 0xFFFF - fold (byte_by sixteen_numbers) 0xFFFF s
+unfolding crc_of
+by_halves s = rw (from_is 0xFFFF s)

@@ -1,4 +1,3 @@
 pub mod Samples
 pub mod Halves
-pub mod Steps
 pub mod Bytes

@@ -14,6 +14,7 @@ const SIXTEEN_NUMBERS: [u16; 16] = [
 ];
 
 // All of them; the promise is their rule.
+#[tactic(auto, unfolding(crate::specs::Halves::sixteen_numbers, crate::specs::Halves::up_from, crate::specs::Crc::crc_bits, crate::specs::Crc::crc_bit))]
 fn sixteen_numbers() -> [u16; 16]
     ensures { result ≡ sixteen_numbers }
 {
@@ -21,39 +22,37 @@ fn sixteen_numbers() -> [u16; 16]
 }
 
 // Half a byte: four bits are shifted out, and their number goes into the rest.
+#[tactic(auto, unfolding(crate::specs::Halves::half_by))]
 fn half(c: u16, numbers: &[u16; 16]) -> u16
     ensures { result ≡ half_by numbers.now c }
 {
-    (c / 16) ^ numbers[(c % 16) as usize]
+    (c / 16) ^ numbers[usize::from(c % 16)]
 }
 
 // A byte: its low half, and then the other.
+#[tactic(auto, unfolding(crate::specs::Halves::byte_by))]
 fn byte(c: u16, b: u8, numbers: &[u16; 16]) -> u16
     ensures { result ≡ byte_by numbers.now c b }
 {
-    let x = c ^ (b as u16);
+    let x = c ^ u16::from(b);
     let y = half(x, numbers);
     half(y, numbers)
 }
 
 // The CRC of all the bytes, as a number. The sixteen numbers are copied once, here, and lent on.
+#[tactic(auto, using(crate::proofs::Halves::by_halves))]
 pub fn crc(s: &[u8]) -> u16
     ensures { result ≡ crc_of s.now }
 {
     let numbers = sixteen_numbers();
-    let mut c: u16 = 0xFFFF;
-    let mut i = 0;
-    while i < s.len() {
-        c = byte(c, s[i], &numbers);
-        i += 1;
-    }
+    let c = s.iter().fold(0xFFFF, |c, b| byte(c, *b, &numbers));
     !c
 }
 
 // Its two bytes, the low one first, as they follow the bytes in a frame.
+#[tactic(auto, unfolding(crate::specs::Crc::crc_bytes))]
 pub fn crc_bytes(s: &[u8]) -> [u8; 2]
     ensures { result ≡ crc_bytes s.now }
 {
-    let c = crc(s);
-    [(c % 256) as u8, (c / 256) as u8]
+    crc(s).to_le_bytes()
 }

@@ -3,17 +3,16 @@
 use mathlib.Core.Path.{◌≡◌, refl, ◌∙◌}
 use mathlib.Core.Bool.{Bool, false}
 use mathlib.Core.List.{List}
-use Prim.Native.Nat.{ℕ, ◌+◌, ◌-◌, ◌≤◌}
+use Prim.Native.Nat.{ℕ, ◌-◌, ◌≤◌}
 use native.Mathlib.Omega.{arith}
 use lib.ListN.{length, length-take, length-drop}
 use borrow.Author.Tests.{eqb-true, not-false}
-use Rattle.rights.proofs.Cases.{if_one}
 use Rattle.record.specs.declared.Front.{Front}
 use Rattle.tag.specs.declared.Entry.{Entry}
 use Rattle.tag.specs.declared.Heard.{Heard}
 use Rattle.tag.specs.declared.Heard.TheVariants.{Request}
 use Rattle.tag.specs.Table.{entry_of, length_of}
-use Rattle.tag.specs.Frame.{address_flag, option_flag, code_of, end_of, custom, after_code, fields_at, fields_from, unlisted, check7, check8, heard_of}
+use Rattle.tag.specs.Frame.{option_flag, code_of, end_of, after_code, fields_at, fields_from, unlisted, check7, check8, heard_of}
 use Rattle.tag.proofs.Came.{Hears, hears}
 use Rattle.tag.proofs.Came as shape
 use Rattle.frame.proofs.Within.{long_enough, within}
@@ -32,10 +31,7 @@ pub record Requested (f : List ℕ) (e : Entry) (o : Bool) (start : ℕ) : Type 
 -- what is heard decides the request
 same_request : (f : List ℕ) {d e : Entry} {p o : Bool} {n m : ℕ} → Request d p n ≡ Request e o m → Requested f d p n → Requested f e o m
 same_request f {d} {e} {p} {o} {n} {m} h r =
-    let a : d ≡ e = cc in
-    let b : p ≡ o = cc in
-    let c : n ≡ m = cc in
-    rw (← a, ← b, ← c) r
+    let same : (d ≡ e) × (p ≡ o) × (n ≡ m) = (cc, cc, cc) in rw (← same.0, ← same.1, ← same.2) r
 
 -- check 8, of fields that lie within the frame
 sized_by : (f : List ℕ) → fields_at f ≤ end_of f → check8 f ≡ false
@@ -47,19 +43,16 @@ sized_by f w e =
 
 least_place : (f : List ℕ) → 2 ≤ fields_at f
 unfolding fields_at after_code
-least_place f =
-    if_one (λ (n : ℕ). 2 ≤ n) (address_flag f)
-    (λ e. if_one (λ (n : ℕ). 2 ≤ n + 8) (custom (code_of f)) (λ e. omega arith) (λ e. omega arith))
-    (λ e. if_one (λ (n : ℕ). 2 ≤ n) (custom (code_of f)) (λ e. omega arith) (λ e. omega arith))
+least_place f = grind arith
 
 module _ (t : Front) (f : List ℕ) where
   -- nothing but a frame that passes all checks is heard so
   heard_as : {x : Heard} {e : Entry} {o : Bool} {start : ℕ} → Hears t f x → x ≡ Request e o start → Requested f e o start
   unfolding check7
-  heard_as shape.silent h = let z : ◌≡◌ {A = ℕ} 0 1 = cc in absurd (omega arith)
-  heard_as shape.another h = let z : ◌≡◌ {A = ℕ} 0 1 = cc in absurd (omega arith)
-  heard_as shape.inventory h = let z : ◌≡◌ {A = ℕ} 0 1 = cc in absurd (omega arith)
-  heard_as (shape.wrong c k) h = let z : ◌≡◌ {A = ℕ} 0 1 = cc in absurd (omega arith)
+  heard_as shape.silent h = absurd cc
+  heard_as shape.another h = absurd cc
+  heard_as shape.inventory h = absurd cc
+  heard_as (shape.wrong c k) h = absurd cc
   heard_as (shape.passes p) h =
       let long = long_enough f p.two in
       let most = within t f long p.five p.six in

@@ -1,51 +1,64 @@
-// From a frame's bytes to what is heard: "Checks, first match wins", checks 2 to 10 of document 01, one function a check, asked in 01's
-// order. Any bytes are taken, an empty frame too.
+// From a frame's bytes to what is heard: "Checks, first match wins", checks 2 to 10 of document 01, asked in 01's order: 2 to 6 one function
+// each, 7 to 10, which go by one row of the table, in `asked`. Any bytes are taken, an empty frame too.
 #![tactic(auto)]
 
-mod checks; // checks.rt: each check of a frame
+mod checks; // checks.rt: checks 2 to 6 of a frame
 pub mod inventory; // inventory.rt: the fields of Inventory, and whether the tag hears it
-mod places; // places.rt: where flags, code, UID, fields and CRC stand
+mod places; // places.rt: a frame, and where its flags, code, UID, fields and CRC stand
 pub mod table; // table.rt: the command table, and the fields of the commands on blocks
 
 ghost use Rattle.std.specs.Prelude.{◌≡◌, ◌≤◌, length};
-ghost use Rattle.tag.specs.Frame.{end_of, fields_at, heard_of};
+ghost use Rattle.tag.specs.Frame.{end_of, fields_at, addressed_only, heard_of};
 ghost use Rattle.frame.specs.Parts.{asked_of, meant_of};
 
-use checks::{
-    check2, check3, check4, check5, check6, check7, check8, check9, check10, select_of_another,
-};
-use places::{code_of, fields_at, flag_bit};
+use checks::{check2, check3, check4, check5, check6, select_of_another};
+use places::{ADDRESS, Frame, INVENTORY, OPTION};
 use record::Front;
-use table::entry_of;
-use tag::Heard;
+use table::{entry_of, right_length};
+use tag::{Command, Heard, OptionRule};
+
+fn addressed_only(command: Command) -> bool
+    ensures { result ≡ addressed_only command }
+{
+    matches!(command, Command::StayQuiet | Command::Select)
+}
 
 // Checks 7 to 10, of a frame that is meant for this tag.
-fn asked(frame: &[u8]) -> Heard
+#[tactic(auto, unfolding(tag::specs::Frame::check7, tag::specs::Frame::check8, tag::specs::Frame::check9, tag::specs::Frame::check10))]
+fn asked(frame: &Frame<'_>) -> Heard
     requires { fields_at frame.now ≤ end_of frame.now }
     ensures { result ≡ asked_of frame.now }
 {
-    let e = entry_of(code_of(frame));
-    if check7(e, frame) {
+    let entry = entry_of(frame.code());
+    // 7. "Code not listed below: error 02h."
+    if matches!(entry.command, Command::Unlisted) {
         return Heard::Error(0x02);
     }
-    if check8(e, frame) {
+    let start = frame.fields_at();
+    let end = frame.end();
+    // 8. "Length not the command's: silence."
+    if end - start != right_length(entry, &frame.bytes[start..end]) {
         return Heard::Silence;
     }
-    if check9(e, frame) {
+    // 9. "Select and Stay Quiet not addressed: silence."
+    if addressed_only(entry.command) && !frame.flag(ADDRESS) {
         return Heard::Silence;
     }
-    if check10(e, frame) {
+    let option = frame.flag(OPTION);
+    // 10. "Option_flag (bit 7) on a command that takes none: 03h."
+    if option && matches!(entry.option, OptionRule::Refused) {
         return Heard::Error(0x03);
     }
     Heard::Request {
-        entry: e,
-        option: flag_bit(frame, 7),
-        start: fields_at(frame),
+        entry,
+        option,
+        start,
     }
 }
 
-// Checks 5 to 10, of a frame that is no Inventory.
-fn meant(front: Front, frame: &[u8]) -> Heard
+// Checks 5 to 10, of a frame that is no Inventory, and is long enough: without its `requires` each request would be tested again.
+#[tactic(auto, using(crate::proofs::Within::within))]
+fn meant(front: Front, frame: &Frame<'_>) -> Heard
     requires { 4 ≤ length frame.now }
     ensures { result ≡ meant_of front frame.now }
 {
@@ -62,20 +75,16 @@ fn meant(front: Front, frame: &[u8]) -> Heard
 }
 
 // What is heard of a frame by a tag in the field.
+#[tactic(auto, using(crate::proofs::Within::long_enough), unfolding(tag::specs::Frame::heard_of))]
 pub fn hear(front: Front, frame: &[u8]) -> Heard
     ensures { result ≡ heard_of front frame.now }
 {
-    if check2(frame) {
+    let frame = Frame { bytes: frame };
+    if check2(&frame) || check3(&frame) || check4(&frame) {
         return Heard::Silence;
     }
-    if check3(frame) {
-        return Heard::Silence;
-    }
-    if check4(frame) {
-        return Heard::Silence;
-    }
-    if flag_bit(frame, 3) {
+    if frame.flag(INVENTORY) {
         return Heard::Inventory;
     }
-    meant(front, frame)
+    meant(front, &frame)
 }

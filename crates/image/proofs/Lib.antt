@@ -1,4 +1,5 @@
 pub mod Ends
 pub mod Zeros
 pub mod Reserved
-pub mod Faults
+pub mod Locks
+pub mod Passwords

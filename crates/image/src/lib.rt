@@ -1,5 +1,6 @@
 // "Image: 64-byte header, then user memory." What an image must be like, what it says of a tag, and how it is written. Whether a call is
-// refused is decided by the host's calls, above.
+// refused is decided by the host's calls, above. The public functions that look at a header take any slice that has one, of an image or of a record of
+// 72 bytes, and so ask for 64 bytes by a `requires`.
 #![tactic(auto)]
 
 pub mod rules; // rules.rt: the rules of the header

@@ -1,12 +1,11 @@
 -- An output line: number, space, what is answered, newline; how it is written, and how long it is.
 -- Assumes nothing.
-use mathlib.Core.Path.{◌≡◌, ◌∙◌}
 use mathlib.Core.List.{List, [], ◌∷◌, ◌++◌}
-use Prim.Native.Nat.{ℕ, ◌+◌, ◌-◌, ◌*◌, ◌≤◌}
+use Prim.Native.Nat.{ℕ, ◌+◌, ◌-◌, ◌≤◌}
 use native.Mathlib.Omega.{arith}
-use lib.ListN.{length, set, take, drop, length-append, length-set}
+use lib.ListN.{length, set, take, drop, length-append}
 use Rattle.put.specs.Put.{Put}
-use Rattle.put.proofs.Written.{Next, sum, store, more, whole}
+use Rattle.put.proofs.Written.{Next, store, more, whole}
 use Rattle.text.specs.Text.{hex_or, decimal_of}
 use Rattle.lines.specs.Output.{text_of}
 use Rattle.text.proofs.Pieces.{one_next, begun}
@@ -16,17 +15,13 @@ module _ (number mark : ℕ) (answer : List ℕ) where
   abbrev text : List ℕ
   text = text_of number mark answer
 
-  pub decimal_fits : {n : ℕ} → length text ≤ n → length (decimal_of number) ≤ n
-  unfolding text_of
-  decimal_fits h = omega (arith, simp length-append at h)
-
   -- the number was put
   module _ {out₀ out : List ℕ} {at : ℕ} (h : length text ≤ length out₀) (p : Put (decimal_of number) out₀ out at) where
-    pub space : Next text (0x20 ∷ []) (hex_or mark answer ++ (0x0A ∷ [])) out₀ out at
+    space : Next text (0x20 ∷ []) (hex_or mark answer ++ (0x0A ∷ [])) out₀ out at
     unfolding text_of
     space = one_next (begun _ p h)
 
-    pub answered : Next text (hex_or mark answer) (0x0A ∷ []) out₀ (set out at 0x20) (at + 1)
+    answered : Next text (hex_or mark answer) (0x0A ∷ []) out₀ (set out at 0x20) (at + 1)
     answered = record { written = store 0x20 space }
 
     -- and what is answered, after a space
@@ -34,19 +29,13 @@ module _ (number mark : ℕ) (answer : List ℕ) where
       abbrev line : List ℕ
       line = take (at + 1) (set out at 0x20) ++ (ys ++ drop (length (set out at 0x20) - (at + 1)) (drop (at + 1) (set out at 0x20)))
 
-      pub newline : Next text (0x0A ∷ []) [] out₀ line (at + 1 + k)
+      newline : Next text (0x0A ∷ []) [] out₀ line (at + 1 + k)
       newline = one_next (more answered q)
-
-      pub line_within : at + 1 + k + 1 ≤ length out₀
-      line_within = omega (arith, sum newline, newline.written.same)
-
-      pub line_same : (y : ℕ) → length (set line (at + 1 + k) y) ≡ length out₀
-      line_same y = length-set line (at + 1 + k) y ∙ newline.written.same
 
       pub line_put : Put text out₀ (set line (at + 1 + k) 0x0A) (at + 1 + k + 1)
       line_put = whole (store 0x0A newline)
 
-  -- an answer of at most n bytes has a line of at most 22 + 2 n
-  pub text_most : (n : ℕ) → 1 ≤ n → length answer ≤ n → length text ≤ 22 + 2 * n
+  -- the longest answer has a line of 20,508 bytes at most
+  pub text_most : length answer ≤ 10243 → length text ≤ 20508
   unfolding text_of
-  text_most n one h = simp length-append (omega (arith, hex_or_most mark answer n one h, decimal_length 19 number))
+  text_most h = simp length-append (omega (arith, hex_or_most mark answer 10243 (omega arith) h, decimal_length 19 number))

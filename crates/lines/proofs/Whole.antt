@@ -11,7 +11,9 @@ use lib.ListN.{length, take, drop, length-append, length-take, length-drop, leng
 use lib.Seq.{length-take-le, take_all, take_at, take-append-le, take-suc-set}
 use lib.Dec.{ltb, eqb}
 use borrow.Author.Tests.{le-ltb, lt-ltb, lt-leb, eq-eqb, ne_eqb}
-use Rattle.std.specs.Prelude.{if◌then◌else◌}
+use Rattle.std.specs.Prelude.{if◌then◌else◌, Option, Some, None, bytes_eq, codes}
+use Rattle.std.proofs.lemmas.Bool.{false_from_ne_true}
+use Rattle.std.proofs.lemmas.Slice.Eq.{bytes_eq-Decides}
 use Rattle.rights.proofs.Cases.{if_one}
 use Rattle.record.specs.declared.Tag.{Tag}
 use Rattle.tag.specs.Rules.{blocks_of, sound}
@@ -19,24 +21,23 @@ use Rattle.tag.specs.Step.{Event, step}
 use Rattle.tag.specs.Host.{is_memory, least_room, event_done, event_given}
 use Rattle.tag.proofs.Sizes.{memory_kept}
 use Rattle.tag.proofs.Sound.{stays_sound, factory_sound}
-use Rattle.lines.specs.declared.form.Form.{Form}
-use Rattle.lines.specs.declared.form.Form.TheVariants as form
+use Rattle.record.specs.declared.Kind.{Kind}
 use Rattle.lines.specs.declared.Progress.{Progress}
-use Rattle.text.specs.Text.{bytes_of_text, same}
 use Rattle.lines.specs.Form.{lines_from, is_request, form_of, event_in}
 use Rattle.lines.specs.Output.{Bench, first_memory, at_first, dash, text_of, said_by, output_from, output_of}
 use Rattle.lines.specs.Calls.{started, so_far, with_byte, Given, nothing, line_given, ended, fed, finished, written}
-use Rattle.text.proofs.Texts.{less_or_not, unlike}
+use Rattle.text.proofs.Texts.{less_or_not}
 
 -- ---- a line of over 128 bytes has no form, and so 129 of them tell
 
-unlike_word : (l word : List ℕ) → length word < 129 → 128 < length l → same l word ≡ false
-unlike_word l word w h = unlike l word (λ e. omega arith)
+unlike_word : (l word : List ℕ) → length word < 129 → 128 < length l → bytes_eq l word ≡ false
+unlike_word l word w h =
+    false_from_ne_true (bytes_eq l word) (λ e. let f : l ≡ word = (bytes_eq-Decides l word).0 e in omega (arith, ap length f))
 
-long_none : (l : List ℕ) → 128 < length l → form_of l ≡ form.NoForm
-unfolding form_of is_request bytes_of_text
+long_none : (l : List ℕ) → 128 < length l → form_of l ≡ None
+unfolding form_of is_request
 long_none l h =
-    rw (unlike_word l (bytes_of_text "ON") (omega arith) h, unlike_word l (bytes_of_text "OFF") (omega arith) h, unlike_word l (bytes_of_text "EOF") (omega arith) h, lt-leb _ _ h, and-false)
+    rw (unlike_word l (codes "ON") (omega arith) h, unlike_word l (codes "OFF") (omega arith) h, unlike_word l (codes "EOF") (omega arith) h, lt-leb _ _ h, and-false)
 
 cut_tells : (p : Progress) (l m x : List ℕ) → line_given (form_of (take 129 l)) p (take 129 l) m x ≡ line_given (form_of l) p l m x
 cut_tells p l m x =
@@ -71,13 +72,13 @@ done t e m x i l s = rw (i, le-ltb _ _ l, s)
 
 -- ---- a line: what is written, and where the session stands then
 
-record Says (f : Form) (p : Progress) (l m x : List ℕ) (g : Given) : Type 0 where
+record Says (f : Option Kind) (p : Progress) (l m x : List ℕ) (g : Given) : Type 0 where
   text : g.text ≡ (said_by f (bench p m) l).text
   next : bench g.progress g.memory ≡ (said_by f (bench p m) l).bench
   stands : Stands g.progress g.memory g.room []
 
-line_says : (f : Form) (p : Progress) (l m x line : List ℕ) → Stands p m x line → Says f p l m x (line_given f p l m x)
-line_says (form.Event k) p l m x line s =
+line_says : (f : Option Kind) (p : Progress) (l m x line : List ℕ) → Stands p m x line → Says f p l m x (line_given f p l m x)
+line_says (Some k) p l m x line s =
     let e = event_in k l in
     let a = (step p.tag m e).answer in
     rw (done p.tag e m x s.memory s.room s.legal)
@@ -93,7 +94,7 @@ line_says (form.Event k) p l m x line s =
         cut = refl;
       };
     })
-line_says form.NoForm p l m x line s =
+line_says None p l m x line s =
     record {
       text = refl;
       next = refl;

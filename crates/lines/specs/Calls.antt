@@ -1,12 +1,11 @@
 -- What the calls give: a byte taken, and the end of the input. The line so far is kept up to 129 bytes: a line of 129 bytes or more has no
 -- form, whatever they are.
 -- Assumes nothing.
-use Rattle.std.specs.Prelude.{ℕ, ◌+◌, ◌≤◌, ◌≡◌, List, [], ◌∷◌, ◌++◌, take, set, replicate, ltb, eqb, if◌then◌else◌}
+use Rattle.std.specs.Prelude.{ℕ, ◌+◌, ◌≡◌, List, [], ◌∷◌, ◌++◌, take, set, replicate, ltb, eqb, if◌then◌else◌, Option, Some, None}
 use Rattle.put.specs.Put.{Put}
 use Rattle.record.specs.declared.Tag.{Tag}
 use Rattle.tag.specs.Host.{event_given}
-use Rattle.lines.specs.declared.form.Form.{Form}
-use Rattle.lines.specs.declared.form.Form.TheVariants.{Event, NoForm}
+use Rattle.record.specs.declared.Kind.{Kind}
 use Rattle.lines.specs.declared.Progress.{Progress}
 use Rattle.lines.specs.declared.Fed.{Fed}
 use Rattle.lines.specs.Form.{form_of, event_in}
@@ -42,11 +41,11 @@ abbrev pub nothing : Progress → List ℕ → List ℕ → Given
 nothing p m x = record { text = []; progress = p; memory = m; room = x }
 
 -- a line that has a form, or none; where the host call refuses, as it never does in a session, no byte is answered
-abbrev pub line_given : Form → Progress → List ℕ → List ℕ → List ℕ → Given
-line_given (Event k) p l m x =
+abbrev pub line_given : Option Kind → Progress → List ℕ → List ℕ → List ℕ → Given
+line_given (Some k) p l m x =
     let g = event_given p.tag (event_in k l) m x in
     record { text = text_of p.number dash (take g.length g.room); progress = after_line p g.tag; memory = g.memory; room = g.room }
-line_given NoForm p l m x = record { text = text_of p.number question []; progress = after_line p p.tag; memory = m; room = x }
+line_given None p l m x = record { text = text_of p.number question []; progress = after_line p p.tag; memory = m; room = x }
 
 -- the line so far ends
 unfoldable pub ended : Progress → List ℕ → List ℕ → Given
@@ -66,13 +65,6 @@ pub record Gives (g : Given) (o m' x' o' : List ℕ) (r : Fed) : Type 0 where
   pub memory : m' ≡ g.memory
   pub room : x' ≡ g.room
   pub out : Put g.text o o' r.length
-
--- the lengths of a line, a room and an out that a line is answered with: a line is cut at 129 bytes, an answer fits the room, and its output
--- line, of at most 20 digits, a space, two digits a byte and a newline, fits out
-pub record Suits (line room out : ℕ) : Type 0 where
-  pub of_line : line ≤ 129
-  pub of_room : room ≤ 10243
-  pub of_out : 20508 ≤ out
 
 -- what a call for each byte of an input, and one for its end, write
 unfoldable pub written : Progress → List ℕ → List ℕ → List ℕ → List ℕ

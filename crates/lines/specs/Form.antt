@@ -1,13 +1,11 @@
 -- "Each input line is ON, OFF, EOF, or a request in upper-case hex without CRC, 2 to 128 digits, an even number; the program adds the CRC."
 -- Assumes nothing.
-use Rattle.std.specs.Prelude.{ℕ, ◌%◌, Bool, ◌&&◌, List, [], ◌∷◌, ◌++◌, length, leb, eqb, if◌then◌else◌}
+use Rattle.std.specs.Prelude.{ℕ, ◌%◌, Bool, ◌&&◌, List, [], ◌∷◌, ◌++◌, length, leb, eqb, if◌then◌else◌, Option, Some, None, bytes_eq, codes}
 use Rattle.record.specs.declared.Kind.{Kind}
 use Rattle.record.specs.declared.Kind.TheVariants.{FieldOn, FieldOff, EndOfFrame, Request}
 use Rattle.tag.specs.Step.{event_of, sealed}
 use Rattle.tag.specs.Step as step
-use Rattle.lines.specs.declared.form.Form.{Form}
-use Rattle.lines.specs.declared.form.Form.TheVariants.{Event, NoForm}
-use Rattle.text.specs.Text.{bytes_of_text, same, all_digits, bytes_in}
+use Rattle.text.specs.Text.{all_digits, bytes_in}
 
 -- "Lines end in a newline; a last one may lack it"
 abbrev pub last_line : List ℕ → List (List ℕ)
@@ -25,12 +23,13 @@ lines_of input = lines_from [] input
 unfoldable pub is_request : List ℕ → Bool
 is_request l = (leb 2 (length l) && leb (length l) 128) && (eqb (length l % 2) 0 && all_digits l)
 
-unfoldable pub form_of : List ℕ → Form
+-- the kind of event that a line is, or none for "a line of no such form"
+unfoldable pub form_of : List ℕ → Option Kind
 form_of l =
-    if same l (bytes_of_text "ON") then Event FieldOn else
-    if same l (bytes_of_text "OFF") then Event FieldOff else
-    if same l (bytes_of_text "EOF") then Event EndOfFrame else
-    if is_request l then Event Request else NoForm
+    if bytes_eq l (codes "ON") then Some FieldOn else
+    if bytes_eq l (codes "OFF") then Some FieldOff else
+    if bytes_eq l (codes "EOF") then Some EndOfFrame else
+    if is_request l then Some Request else None
 
 -- the event of a line of a kind; a request's frame is its bytes and their CRC
 abbrev pub event_in : Kind → List ℕ → step.Event

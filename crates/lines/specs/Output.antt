@@ -1,11 +1,10 @@
 -- "Session program": the whole output of a whole input.
 -- Assumes nothing.
-use Rattle.std.specs.Prelude.{ℕ, ◌+◌, List, [], ◌∷◌, ◌++◌, replicate, ltb, if◌then◌else◌}
+use Rattle.std.specs.Prelude.{ℕ, ◌+◌, List, [], ◌∷◌, ◌++◌, replicate, ltb, if◌then◌else◌, Option, Some, None}
 use Rattle.record.specs.declared.Tag.{Tag}
 use Rattle.tag.specs.Step.{step}
 use Rattle.tag.specs.Image.{factory}
-use Rattle.lines.specs.declared.form.Form.{Form}
-use Rattle.lines.specs.declared.form.Form.TheVariants.{Event, NoForm}
+use Rattle.record.specs.declared.Kind.{Kind}
 use Rattle.text.specs.Text.{hex_or, decimal_of}
 use Rattle.lines.specs.Form.{lines_of, form_of, event_in}
 
@@ -46,11 +45,11 @@ pub record Said : Type 0 where
   pub bench : Bench
 
 -- "`?` for a line of no such form, which is no event"
-abbrev pub said_by : Form → Bench → List ℕ → Said
-said_by (Event k) b l =
+abbrev pub said_by : Option Kind → Bench → List ℕ → Said
+said_by (Some k) b l =
     let s = step b.tag b.memory (event_in k l) in
     record { text = text_of b.number dash s.answer; bench = record { number = next_number b.number; tag = s.tag; memory = s.memory } }
-said_by NoForm b l =
+said_by None b l =
     record { text = text_of b.number question []; bench = record { number = next_number b.number; tag = b.tag; memory = b.memory } }
 
 -- line by line

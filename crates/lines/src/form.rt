@@ -7,36 +7,24 @@ ghost use Rattle.lines.specs.Form.{is_request, form_of};
 
 use record::Kind;
 
-// "ON, OFF, EOF, or a request", each of which is an event of a kind, or "a line of no such form"
-#[derive(Clone, Copy)]
-pub enum Form {
-    Event(Kind),
-    NoForm,
-}
-
+#[tactic(auto, unfolding(crate::specs::Form::is_request))]
 fn is_request(line: &[u8]) -> bool
     ensures { result ≡ is_request line.now }
 {
-    let n = line.len();
-    ((2 <= n) & (n <= 128)) & ((n % 2 == 0) & text::all_digits(line))
+    (2..=128).contains(&line.len()) && line.len() % 2 == 0 && text::all_digits(line)
 }
 
-pub fn form_of(line: &[u8]) -> Form
+// "ON, OFF, EOF, or a request", each of which is an event of a kind; none for "a line of no such form"
+#[tactic(auto, unfolding(crate::specs::Form::form_of))]
+pub fn form_of(line: &[u8]) -> Option<Kind>
     ensures { result ≡ form_of line.now }
 {
-    if text::is_same(line, b"ON") {
-        return Form::Event(Kind::FieldOn);
+    match line {
+        b"ON" => Some(Kind::FieldOn),
+        b"OFF" => Some(Kind::FieldOff),
+        b"EOF" => Some(Kind::EndOfFrame),
+        _ => is_request(line).then_some(Kind::Request),
     }
-    if text::is_same(line, b"OFF") {
-        return Form::Event(Kind::FieldOff);
-    }
-    if text::is_same(line, b"EOF") {
-        return Form::Event(Kind::EndOfFrame);
-    }
-    if is_request(line) {
-        return Form::Event(Kind::Request);
-    }
-    Form::NoForm
 }
 
 // The bytes of a request in hex, and their CRC, go to the start of frame.

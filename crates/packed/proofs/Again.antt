@@ -8,20 +8,18 @@ use mathlib.Core.List.{List, ◌++◌}
 use lib.ListN.{length, get_or}
 use lib.Dec.{leb, eqb}
 use borrow.Author.Tests.{eqb-true, eq-eqb, leb-true}
+use Rattle.std.specs.Prelude.{Option, Some, None, Ok, Err}
 use Rattle.put.specs.Number.{bytes_of}
 use Rattle.put.proofs.RoundTrips.{places_at, all_places}
+use Rattle.rights.specs.Verdict.{Verdict}
 use Rattle.rights.specs.declared.Session.{Session}
 use Rattle.rights.specs.declared.Session.TheVariants as session
-use Rattle.rights.specs.declared.Verdict.TheVariants as verdict
 use Rattle.rights.specs.Registers.{one_if}
 use Rattle.rights.proofs.Cases.{both, join}
 use Rattle.record.specs.declared.Tag.{Tag}
 use Rattle.record.specs.declared.State.{State}
 use Rattle.record.specs.declared.State.TheVariants.{Ready, Quiet, Selected}
 use Rattle.record.specs.declared.Round.{Round}
-use Rattle.record.specs.declared.Round.TheVariants as round
-use Rattle.record.specs.declared.Held.{Held}
-use Rattle.record.specs.declared.Held.TheVariants as held
 use Rattle.tag.specs.Rules.{blocks_of, sound}
 use Rattle.tag.specs.Image.{mark_of, tag_in, lock_rule, zeros, reserved_rule, header_of}
 use Rattle.tag.proofs.Headers.{Lasting, header_says, header_again}
@@ -38,21 +36,21 @@ state_again Ready = refl
 state_again Quiet = refl
 state_again Selected = refl
 
-session_again : (s : Session) → session_in (session_byte s) ≡ s
-session_again session.None = refl
-session_again session.Configuration = refl
-session_again session.User1 = refl
-session_again session.User2 = refl
-session_again session.User3 = refl
+session_again : (s : Option Session) → session_in (session_byte s) ≡ s
+session_again None = refl
+session_again (Some session.Configuration) = refl
+session_again (Some session.User1) = refl
+session_again (Some session.User2) = refl
+session_again (Some session.User3) = refl
 
-round_again : (r : Round) → round_in (open_byte r) (slot_byte r) (mask_byte r) ≡ r
-round_again round.None = refl
-round_again (round.Open slot mask) = refl
+round_again : (r : Option Round) → round_in (open_byte r) (slot_byte r) (mask_byte r) ≡ r
+round_again None = refl
+round_again (Some o) = refl
 
-held_again : (h : Held) → held_in (held_byte h) (code_byte h) ≡ h
-held_again held.None = refl
-held_again (held.Answer verdict.Success) = refl
-held_again (held.Answer (verdict.Error code)) = refl
+held_again : (h : Option Verdict) → held_in (held_byte h) (code_byte h) ≡ h
+held_again None = refl
+held_again (Some (Ok tt)) = refl
+held_again (Some (Err code)) = refl
 
 module _ (size : ℕ) (t : Tag) where
   pub record_again : Lasting t → record_in (record_of size t) ≡ t
@@ -79,34 +77,34 @@ module _ (size : ℕ) (t : Tag) where
       go_state Quiet = refl
       go_state Selected = refl
 
-      go_session : (s : Session) → leb (session_byte s) 4 ≡ true
-      go_session session.None = refl
-      go_session session.Configuration = refl
-      go_session session.User1 = refl
-      go_session session.User2 = refl
-      go_session session.User3 = refl
+      go_session : (s : Option Session) → leb (session_byte s) 4 ≡ true
+      go_session None = refl
+      go_session (Some session.Configuration) = refl
+      go_session (Some session.User1) = refl
+      go_session (Some session.User2) = refl
+      go_session (Some session.User3) = refl
 
-      go_round : (r : Round) → leb (open_byte r) 1 ≡ true
-      go_round round.None = refl
-      go_round (round.Open slot mask) = refl
+      go_round : (r : Option Round) → leb (open_byte r) 1 ≡ true
+      go_round None = refl
+      go_round (Some o) = refl
 
-      go_held : (h : Held) → leb (held_byte h) 2 ≡ true
-      go_held held.None = refl
-      go_held (held.Answer verdict.Success) = refl
-      go_held (held.Answer (verdict.Error code)) = refl
+      go_held : (h : Option Verdict) → leb (held_byte h) 2 ≡ true
+      go_held None = refl
+      go_held (Some (Ok tt)) = refl
+      go_held (Some (Err code)) = refl
 
   unused_kept : unused_rule (record_of size t) ≡ true
   unfolding unused_rule record_of header_of bytes_of
   unused_kept = join (go_round t.front.round) (go_held t.front.held)
     where
-      go_round : (r : Round) → (eqb (open_byte r) 1 || (eqb (slot_byte r) 0 && eqb (mask_byte r) 0)) ≡ true
-      go_round round.None = refl
-      go_round (round.Open slot mask) = refl
+      go_round : (r : Option Round) → (eqb (open_byte r) 1 || (eqb (slot_byte r) 0 && eqb (mask_byte r) 0)) ≡ true
+      go_round None = refl
+      go_round (Some o) = refl
 
-      go_held : (h : Held) → (eqb (held_byte h) 2 || eqb (code_byte h) 0) ≡ true
-      go_held held.None = refl
-      go_held (held.Answer verdict.Success) = refl
-      go_held (held.Answer (verdict.Error code)) = refl
+      go_held : (h : Option Verdict) → (eqb (held_byte h) 2 || eqb (code_byte h) 0) ≡ true
+      go_held None = refl
+      go_held (Some (Ok tt)) = refl
+      go_held (Some (Err code)) = refl
 
   -- the bytes of a record are one where the record keeps the record rules
   pub rule_again : (blocks : ℕ) → Lasting t → record_rule size blocks (record_of size t) ≡ sound blocks t

@@ -1,20 +1,20 @@
 -- The rules for bytes 64 to 71, tested on the bytes as they lie.
 -- Assumes nothing.
-use Prim.Native.Nat.{ℕ, zero, suc}
-use native.Mathlib.Omega.{arith}
+use Prim.Native.Nat.{ℕ}
 use mathlib.Core.Path.{◌≡◌, refl, sym}
 use mathlib.Core.Bool.{Bool, true, false, not, ◌&&◌, ◌||◌}
 use mathlib.Core.List.{List}
 use lib.ListN.{get_or}
 use lib.Dec.{leb, eqb}
-use borrow.Author.Tests.{eqb-true, lt-leb}
+use borrow.Author.Tests.{eqb-true}
+use Rattle.std.specs.Prelude.{Option}
+use Rattle.rights.specs.Verdict.{Verdict}
 use Rattle.rights.specs.declared.Session.{Session}
 use Rattle.rights.specs.Passwords.{any_open}
 use Rattle.rights.specs.Registers.{possible}
 use Rattle.rights.proofs.Cases.{and_true, and_false, if_one}
 use Rattle.record.specs.declared.State.{State}
 use Rattle.record.specs.declared.Round.{Round}
-use Rattle.record.specs.declared.Held.{Held}
 use Rattle.record.specs.Tests.{is_ready, is_quiet, no_round, none_held}
 use Rattle.tag.specs.Rules.{last_end, off_rule, round_rule, held_rule, together_rule, sound}
 use Rattle.tag.specs.Image.{areas_in, tag_in}
@@ -35,27 +35,19 @@ quiet_in b =
 
 pub closed_in : (b : ℕ) → not (any_open (session_in b)) ≡ eqb b 0
 closed_in b =
-    let P : Session → Type 0 = λ s. not (any_open s) ≡ eqb b 0 in
+    let P : Option Session → Type 0 = λ s. not (any_open s) ≡ eqb b 0 in
     if_one P (eqb b 0) (λ zero. sym zero) (λ other.
     if_one P (eqb b 1) (λ e. sym other) (λ e.
     if_one P (eqb b 2) (λ e. sym other) (λ e.
     if_one P (eqb b 3) (λ e. sym other) (λ e. sym other))))
 
 pub no_round_in : (b slot mask : ℕ) → no_round (round_in b slot mask) ≡ not (eqb b 1)
-no_round_in b slot mask = if_one (λ (r : Round). no_round r ≡ not (eqb b 1)) (eqb b 1) (λ e. rw e) (λ e. rw e)
+no_round_in b slot mask = if_one (λ (r : Option Round). no_round r ≡ not (eqb b 1)) (eqb b 1) (λ e. rw e) (λ e. rw e)
 
 pub none_held_in : (b code : ℕ) → none_held (held_in b code) ≡ eqb b 0
 none_held_in b code =
-    let P : Held → Type 0 = λ h. none_held h ≡ eqb b 0 in
+    let P : Option Verdict → Type 0 = λ h. none_held h ≡ eqb b 0 in
     if_one P (eqb b 0) (λ zero. sym zero) (λ other. if_one P (eqb b 1) (λ e. sym other) (λ e. sym other))
-
--- a held answer that is no error has no code
-pub held_no_error : (b code : ℕ) → (b ≡ 2 → ⊥) → (leb b 1 && eqb code 0) ≡ ((leb b 2 && (eqb b 2 || eqb code 0)) && held_rule (held_in b code))
-unfolding held_rule
-held_no_error zero code h = rw and_true
-held_no_error (suc zero) code h = rw and_true
-held_no_error (suc (suc zero)) code h = absurd (h refl)
-held_no_error (suc (suc (suc b))) code h = rw (lt-leb (suc (suc (suc b))) 1 (omega arith), lt-leb (suc (suc (suc b))) 2 (omega arith))
 
 -- ---- all rules, in the order in which they are tested
 

@@ -1,14 +1,14 @@
 -- The bytes of a record, written in two parts.
 -- Assumes nothing.
-use Prim.Native.Nat.{ℕ, ◌-◌, ◌<◌}
+use Prim.Native.Nat.{ℕ, ◌<◌}
 use native.Mathlib.Omega.{arith}
 use mathlib.Core.Path.{◌≡◌, ap, sym, ◌∙◌}
 use mathlib.Core.Bool.{true}
-use mathlib.Core.List.{List, ◌++◌}
-use lib.ListN.{length, get_or, take, drop, drop_of_length-le}
+use mathlib.Core.List.{List, [], ◌++◌}
+use lib.ListN.{length, get_or, take, drop, length-take, length-drop, drop_of_length-le}
 use lib.Seq.{take_at}
+use borrow.Rule.Slice.PartMut.{put_mid, mid_of}
 use Rattle.put.specs.Put.{Put}
-use Rattle.put.proofs.Lists.{put_tail}
 use Rattle.record.specs.declared.Tag.{Tag}
 use Rattle.tag.specs.Image.{header_of}
 use Rattle.tag.proofs.Headers.{header_length_lem}
@@ -16,11 +16,12 @@ use Rattle.packed.specs.Bytes.{record_length, record_in, record_rule, passing_of
 use Rattle.packed.proofs.Again.{bytes_again}
 
 -- the passing parts were put at the end
-pub passing_put : (t : Tag) (xs : List ℕ) {n : ℕ} {after ys : List ℕ} → after ≡ passing_of t → Put after (take (length xs - 64) (drop 64 xs)) ys n
-    → length xs ≡ record_length → take 64 xs ++ (ys ++ drop (length xs - 64) (drop 64 xs)) ≡ take 64 xs ++ passing_of t
-passing_put t xs {n} {after} {ys} e p l =
-    let none = drop_of_length-le xs {i = record_length} (omega (arith, l)) in
-    put_tail xs ys after 64 p.is ∙ rw (e, none)
+pub passing_put : (t : Tag) (r : List ℕ) {n : ℕ} {ys : List ℕ} → Put (passing_of t) (mid_of 64 8 r) ys n → length r ≡ record_length
+    → put_mid 64 8 r ys ≡ take 64 r ++ passing_of t
+passing_put t r p l =
+    let rest : drop 8 (mid_of 64 8 r) ≡ [] = drop_of_length-le (mid_of 64 8 r) {i = 8} (simp length-take (omega arith)) in
+    let none : drop 8 (drop 64 r) ≡ [] = drop_of_length-le (drop 64 r) {i = 8} (simp length-drop (omega arith)) in
+    rw (p.is, rest, none)
 
 -- and the header before them
 pub record_put : (size : ℕ) (t : Tag) {n : ℕ} {xs ys zs : List ℕ} → Put (header_of size t) xs ys n → zs ≡ take 64 ys ++ passing_of t → zs ≡ record_of size t

@@ -2,10 +2,10 @@
 -- (0 Ready, 1 Quiet, 2 Selected), 66 session (0 none, 1 to 4 for passwords 0 to 3), 67 round (0 none, 1 open), 68 its slot, 69 its mask length,
 -- 70 held (0 none, 1 success, 2 error), 71 its code. Bytes without use are 0."
 -- Assumes nothing.
-use Rattle.std.specs.Prelude.{ℕ, Bool, ◌&&◌, ◌||◌, List, [], ◌∷◌, ◌++◌, length, get_or, leb, eqb, if◌then◌else◌}
+use Rattle.std.specs.Prelude.{ℕ, Bool, ◌&&◌, ◌||◌, List, [], ◌∷◌, ◌++◌, length, get_or, leb, eqb, if◌then◌else◌, Option, Some, None, Ok, Err}
+use Rattle.rights.specs.Verdict.{Verdict}
 use Rattle.rights.specs.declared.Session.{Session}
 use Rattle.rights.specs.declared.Session.TheVariants as session
-use Rattle.rights.specs.declared.Verdict.TheVariants as verdict
 use Rattle.rights.specs.declared.Vault.{Vault}
 use Rattle.rights.specs.Registers.{one_if}
 use Rattle.record.specs.declared.Front.{Front}
@@ -13,10 +13,7 @@ use Rattle.record.specs.declared.Tag.{Tag}
 use Rattle.record.specs.declared.State.{State}
 use Rattle.record.specs.declared.State.TheVariants.{Ready, Quiet, Selected}
 use Rattle.record.specs.declared.Round.{Round}
-use Rattle.record.specs.declared.Round.TheVariants as round
-use Rattle.record.specs.declared.Held.{Held}
-use Rattle.record.specs.declared.Held.TheVariants as held
-use Rattle.record.specs.Update.{with_keys}
+use Rattle.record.specs.Update.{with_keys, running}
 use Rattle.tag.specs.Rules.{blocks_of, sound}
 use Rattle.tag.specs.Image.{mark_of, tag_in, lock_rule, reserved_rule, header_of}
 
@@ -29,20 +26,20 @@ record_length = 72
 abbrev pub state_in : ℕ → State
 state_in b = if eqb b 0 then Ready else if eqb b 1 then Quiet else Selected
 
-abbrev pub session_in : ℕ → Session
+abbrev pub session_in : ℕ → Option Session
 session_in b =
-    if eqb b 0 then session.None else
-    if eqb b 1 then session.Configuration else
-    if eqb b 2 then session.User1 else
-    if eqb b 3 then session.User2 else session.User3
+    if eqb b 0 then None else
+    if eqb b 1 then Some session.Configuration else
+    if eqb b 2 then Some session.User1 else
+    if eqb b 3 then Some session.User2 else Some session.User3
 
-abbrev pub round_in : ℕ → ℕ → ℕ → Round
-round_in b slot mask = if eqb b 1 then round.Open slot mask else round.None
+abbrev pub round_in : ℕ → ℕ → ℕ → Option Round
+round_in b slot mask = if eqb b 1 then running slot mask else None
 
-abbrev pub held_in : ℕ → ℕ → Held
+abbrev pub held_in : ℕ → ℕ → Option Verdict
 held_in b code =
-    if eqb b 0 then held.None else
-    if eqb b 1 then held.Answer verdict.Success else held.Answer (verdict.Error code)
+    if eqb b 0 then None else
+    if eqb b 1 then Some (Ok tt) else Some (Err code)
 
 -- the lasting parts as in an image's header, and the passing ones after it
 abbrev pub front_in : List ℕ → Front
@@ -90,34 +87,34 @@ state_byte Ready = 0
 state_byte Quiet = 1
 state_byte Selected = 2
 
-abbrev pub session_byte : Session → ℕ
-session_byte session.None = 0
-session_byte session.Configuration = 1
-session_byte session.User1 = 2
-session_byte session.User2 = 3
-session_byte session.User3 = 4
+abbrev pub session_byte : Option Session → ℕ
+session_byte None = 0
+session_byte (Some session.Configuration) = 1
+session_byte (Some session.User1) = 2
+session_byte (Some session.User2) = 3
+session_byte (Some session.User3) = 4
 
-abbrev pub open_byte : Round → ℕ
-open_byte round.None = 0
-open_byte (round.Open slot mask) = 1
+abbrev pub open_byte : Option Round → ℕ
+open_byte None = 0
+open_byte (Some o) = 1
 
-abbrev pub slot_byte : Round → ℕ
-slot_byte round.None = 0
-slot_byte (round.Open slot mask) = slot
+abbrev pub slot_byte : Option Round → ℕ
+slot_byte None = 0
+slot_byte (Some o) = o.slot
 
-abbrev pub mask_byte : Round → ℕ
-mask_byte round.None = 0
-mask_byte (round.Open slot mask) = mask
+abbrev pub mask_byte : Option Round → ℕ
+mask_byte None = 0
+mask_byte (Some o) = o.mask
 
-abbrev pub held_byte : Held → ℕ
-held_byte held.None = 0
-held_byte (held.Answer verdict.Success) = 1
-held_byte (held.Answer (verdict.Error code)) = 2
+abbrev pub held_byte : Option Verdict → ℕ
+held_byte None = 0
+held_byte (Some (Ok tt)) = 1
+held_byte (Some (Err code)) = 2
 
-abbrev pub code_byte : Held → ℕ
-code_byte held.None = 0
-code_byte (held.Answer verdict.Success) = 0
-code_byte (held.Answer (verdict.Error code)) = code
+abbrev pub code_byte : Option Verdict → ℕ
+code_byte None = 0
+code_byte (Some (Ok tt)) = 0
+code_byte (Some (Err code)) = code
 
 abbrev pub passing_of : Tag → List ℕ
 passing_of t =

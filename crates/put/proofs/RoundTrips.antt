@@ -42,7 +42,8 @@ unfolding number_at bytes_of
 number_of_bytes zero n h = omega arith
 number_of_bytes (suc k) n h =
     let l : n < 256 ^ k * 256 = rw pow-suc at h in
-    let e : number_at k (n % 256 ∷ bytes_of k (n / 256)) 1 ≡ n / 256 = number_after k (n % 256) (bytes_of k (n / 256)) 0 ∙ number_of_bytes k (n / 256) (omega arith) in
+    let e : number_at k (n % 256 ∷ bytes_of k (n / 256)) 1 ≡ n / 256 =
+    number_after k (n % 256) (bytes_of k (n / 256)) 0 ∙ number_of_bytes k (n / 256) (omega arith) in
     rw (zero-add, e) (omega arith)
 
 pub bytes_of_number : (k : ℕ) (s : List ℕ) (at : ℕ) → ((i : ℕ) → get_or s i 0 < 256) → bytes_of k (number_at k s at) ≡ places_at k s at

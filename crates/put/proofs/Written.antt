@@ -6,10 +6,10 @@ use mathlib.Core.List.{List, [], ◌∷◌, ◌++◌, append-nil, append_assoc}
 use Prim.Native.Nat.{ℕ, ◌+◌, ◌-◌, ◌≤◌, ◌<◌}
 use native.Mathlib.Omega.{arith}
 use native.Mathlib.Numerals.{add-one}
-use lib.ListN.{length, take, drop, set, get_or, length-append, length-drop, length-set, take-append-drop, drop_of_length-le}
+use lib.ListN.{length, take, drop, set, length-append, length-drop, length-set, take-append-drop}
 use Rattle.put.specs.Put.{Put}
-use lib.Seq.{length-take-le, take_at, drop_at, drop-drop, take-suc-set, drop-set-lt, drop-cons}
-use Rattle.put.proofs.Lists.{tail, put_tail, tail_room}
+use lib.Seq.{length-take-le, take_at, drop_at, drop-drop, take-suc-set, drop-set-lt}
+use Rattle.put.proofs.Lists.{put_tail, tail_room}
 
 -- the first `at` bytes of L stand in out, which is out₀ after them; rest is what is left of L
 pub record Written (L rest out₀ out : List ℕ) (at : ℕ) : Type 0 where
@@ -74,40 +74,3 @@ store {L} {rest} {out₀} {out} {at} x n =
       within = simp length-set (omega (arith, sum n));
       fits = w.fits;
     }
-
--- a list that is written byte by byte: the byte at `at` comes next
-pub byte : {L out₀ out : List ℕ} {at : ℕ} → at < length L → Written L (drop at L) out₀ out at → Next L (get_or L at 0 ∷ []) (drop (at + 1) L) out₀ out at
-byte {L} {out₀} {out} {at} h w = record { written = rw (drop-cons L at 0 h, ← add-one) at w }
-
--- and at the end nothing is left
-pub last : {L out₀ out : List ℕ} {at : ℕ} → length L ≤ at → Written L (drop at L) out₀ out at → Put L out₀ out at
-last {L} {out₀} {out} {at} h w = whole (rw (drop_of_length-le L h) at w)
-
--- n bytes come next, which are a
-part : {L out₀ out a : List ℕ} {at : ℕ} (n : ℕ) → Written L (drop at L) out₀ out at → a ≡ take n (drop at L) → Next L a (drop (at + n) L) out₀ out at
-part {L} {out₀} {out} {a} {at} n w f =
-    let e : a ++ drop (at + n) L ≡ drop at L = rw (f, ← drop-drop n at L) (take-append-drop n (drop at L)) in
-    record { written = rw e w }
-
--- they go to the start of what is lent as `&mut out[at..]`
-pub put_part : {L out₀ out a ys : List ℕ} {at k : ℕ} (n : ℕ) → Written L (drop at L) out₀ out at → a ≡ take n (drop at L) → at + n ≤ length L
-    → Put a (take (length out - at) (drop at out)) ys k
-    → Written L (drop (at + n) L) out₀ (take at out ++ (ys ++ drop (length out - at) (drop at out))) (at + n)
-put_part {L} {out₀} {out} {a} {ys} {at} {k} n w f h p =
-    let l : n ≡ length a = sym (rw f (length-take-le n (drop at L) (simp length-drop (omega arith)))) in
-    let c : k ≡ n = p.count ∙ sym l in
-    rw c at (more (part n w f) p)
-
--- room for them
-pub part_room : {L out₀ out a : List ℕ} {at : ℕ} (n : ℕ) → Written L (drop at L) out₀ out at → a ≡ take n (drop at L)
-    → length a ≤ length (take (length out - at) (drop at out))
-part_room n w f = room (part n w f)
-
--- all that is left
-pub left : {L out₀ out : List ℕ} {at : ℕ} → Written L (drop at L) out₀ out at → Next L (take (length L - at) (drop at L)) [] out₀ out at
-left {L} {out₀} {out} {at} w = record { written = rw (tail L at, append-nil (drop at L)) w }
-
-pub put_left : {L out₀ out ys : List ℕ} {at k : ℕ} → Written L (drop at L) out₀ out at
-    → Put (take (length L - at) (drop at L)) (take (length out - at) (drop at out)) ys k
-    → Put L out₀ (take at out ++ (ys ++ drop (length out - at) (drop at out))) (at + k)
-put_left w p = whole (more (left w) p)

@@ -1,12 +1,10 @@
 -- Tests of a record's passing parts.
 -- Assumes nothing.
-use Rattle.std.specs.Prelude.{Bool, true, false}
+use Rattle.std.specs.Prelude.{Bool, true, false, Option, Some, None}
+use Rattle.rights.specs.Verdict.{Verdict}
 use Rattle.record.specs.declared.State.{State}
 use Rattle.record.specs.declared.State.TheVariants.{Ready, Quiet, Selected}
 use Rattle.record.specs.declared.Round.{Round}
-use Rattle.record.specs.declared.Round.TheVariants as round
-use Rattle.record.specs.declared.Held.{Held}
-use Rattle.record.specs.declared.Held.TheVariants as held
 
 abbrev pub is_ready : State → Bool
 is_ready Ready = true
@@ -23,10 +21,10 @@ is_selected Ready = false
 is_selected Quiet = false
 is_selected Selected = true
 
-abbrev pub no_round : Round → Bool
-no_round round.None = true
-no_round (round.Open slot mask) = false
+abbrev pub no_round : Option Round → Bool
+no_round None = true
+no_round (Some o) = false
 
-abbrev pub none_held : Held → Bool
-none_held held.None = true
-none_held (held.Answer v) = false
+abbrev pub none_held : Option Verdict → Bool
+none_held None = true
+none_held (Some v) = false

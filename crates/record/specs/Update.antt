@@ -1,6 +1,7 @@
 -- A record with one part of it changed.
 -- Assumes nothing.
-use Rattle.std.specs.Prelude.{ℕ, Bool, true}
+use Rattle.std.specs.Prelude.{ℕ, Bool, true, Option, Some, None}
+use Rattle.rights.specs.Verdict.{Verdict}
 use Rattle.rights.specs.declared.Keys.{Keys}
 use Rattle.rights.specs.declared.Session.TheVariants as session
 use Rattle.rights.specs.declared.Vault.{Vault}
@@ -9,17 +10,18 @@ use Rattle.record.specs.declared.Tag.{Tag}
 use Rattle.record.specs.declared.State.{State}
 use Rattle.record.specs.declared.State.TheVariants.{Ready}
 use Rattle.record.specs.declared.Round.{Round}
-use Rattle.record.specs.declared.Round.TheVariants as round
-use Rattle.record.specs.declared.Held.{Held}
-use Rattle.record.specs.declared.Held.TheVariants as held
+
+-- an inventory round: the running slot, and the mask length that it was opened with
+abbrev pub running : ℕ → ℕ → Option Round
+running slot mask = Some (record { slot = slot; mask = mask })
 
 abbrev pub with_state : Front → State → Front
 with_state f s = record { uid = f.uid; afi = f.afi; dsfid = f.dsfid; lockafi = f.lockafi; lockdsfid = f.lockdsfid; field = f.field; state = s; round = f.round; held = f.held }
 
-abbrev pub with_round : Front → Round → Front
+abbrev pub with_round : Front → Option Round → Front
 with_round f r = record { uid = f.uid; afi = f.afi; dsfid = f.dsfid; lockafi = f.lockafi; lockdsfid = f.lockdsfid; field = f.field; state = f.state; round = r; held = f.held }
 
-abbrev pub with_held : Front → Held → Front
+abbrev pub with_held : Front → Option Verdict → Front
 with_held f h = record { uid = f.uid; afi = f.afi; dsfid = f.dsfid; lockafi = f.lockafi; lockdsfid = f.lockdsfid; field = f.field; state = f.state; round = f.round; held = h }
 
 abbrev pub with_afi : Front → ℕ → Front
@@ -45,8 +47,8 @@ with_keys v k = record { areas = v.areas; lock0 = v.lock0; lock1 = v.lock1; lock
 
 -- "Field off clears passing parts; field on gives Ready": state, round and held answer, of a front whose field comes or goes
 abbrev pub passing_cleared : Front → Bool → Front
-passing_cleared f on = record { uid = f.uid; afi = f.afi; dsfid = f.dsfid; lockafi = f.lockafi; lockdsfid = f.lockdsfid; field = on; state = Ready; round = round.None; held = held.None }
+passing_cleared f on = record { uid = f.uid; afi = f.afi; dsfid = f.dsfid; lockafi = f.lockafi; lockdsfid = f.lockdsfid; field = on; state = Ready; round = None; held = None }
 
 -- "Field off clears passing parts": of a vault the open session
 abbrev pub sessionless : Vault → Vault
-sessionless v = with_keys v (record { passwords = v.keys.passwords; session = session.None })
+sessionless v = with_keys v (record { passwords = v.keys.passwords; session = None })

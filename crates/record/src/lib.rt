@@ -4,13 +4,12 @@
 #![tactic(auto)]
 
 ghost use Rattle.std.specs.Prelude.{◌≡◌};
-ghost use Rattle.record.specs.Tests.{is_ready, is_quiet, is_selected, no_round, none_held};
 ghost use Rattle.record.specs.Update.{with_state, with_round, with_held, with_afi, with_dsfid, with_afi_locked, with_dsfid_locked};
 ghost use Rattle.record.specs.Update.{with_front, with_vault, passing_cleared, sessionless};
 
-use rights::{Keys, Session, Vault, Verdict};
+use rights::{Keys, Vault, Verdict};
 
-#[derive(Clone, Copy)]
+#[derive(Clone, Copy, Debug, PartialEq, Eq)]
 pub enum State {
     Ready,
     Quiet,
@@ -18,17 +17,10 @@ pub enum State {
 }
 
 // "an inventory round": the running slot, and the mask length that it was opened with
-#[derive(Clone, Copy)]
-pub enum Round {
-    None,
-    Open { slot: u8, mask: u8 },
-}
-
-// "a held answer": success or an error code
-#[derive(Clone, Copy)]
-pub enum Held {
-    None,
-    Answer(Verdict),
+#[derive(Clone, Copy, Debug, PartialEq, Eq)]
+pub struct Round {
+    pub slot: u8,
+    pub mask: u8,
 }
 
 #[derive(Clone, Copy)]
@@ -42,8 +34,8 @@ pub struct Front {
     // passing
     pub field: bool,
     pub state: State,
-    pub round: Round,
-    pub held: Held,
+    pub round: Option<Round>,
+    pub held: Option<Verdict>, // "a held answer": success or an error code
 }
 
 #[derive(Clone, Copy)]
@@ -53,7 +45,7 @@ pub struct Tag {
 }
 
 // What kind of event happens to a tag: the field comes or goes, a frame ends, or a request comes, whose bytes are lent beside it.
-#[derive(Clone, Copy)]
+#[derive(Clone, Copy, Debug, PartialEq, Eq)]
 pub enum Kind {
     FieldOn,
     FieldOff,
@@ -62,9 +54,8 @@ pub enum Kind {
 }
 
 // "Host calls and their numbers", and those of 02: a fault of a header has the place of its byte
-#[derive(Clone, Copy)]
+#[derive(Clone, Copy, Debug, PartialEq, Eq)]
 pub enum Refusal {
-    None,
     Memory,
     Room,
     Record,
@@ -79,75 +70,27 @@ pub enum Refusal {
     Small,
 }
 
-// What a host call gives: refusal, length of the answer or of the saved image, and the record
+// What an event or a host's call gives that is not refused: length of the answer, 0 for silence, or of the saved image, and the record
 #[derive(Clone, Copy)]
 pub struct Outcome {
-    pub refusal: Refusal,
     pub length: usize,
     pub tag: Tag,
 }
 
-pub fn is_ready(s: State) -> bool
-    ensures { result ≡ is_ready s }
-{
-    match s {
-        State::Ready => true,
-        State::Quiet => false,
-        State::Selected => false,
-    }
-}
-
-pub fn is_quiet(s: State) -> bool
-    ensures { result ≡ is_quiet s }
-{
-    match s {
-        State::Ready => false,
-        State::Quiet => true,
-        State::Selected => false,
-    }
-}
-
-pub fn is_selected(s: State) -> bool
-    ensures { result ≡ is_selected s }
-{
-    match s {
-        State::Ready => false,
-        State::Quiet => false,
-        State::Selected => true,
-    }
-}
-
-pub fn no_round(r: Round) -> bool
-    ensures { result ≡ no_round r }
-{
-    match r {
-        Round::None => true,
-        Round::Open { slot: _, mask: _ } => false,
-    }
-}
-
-pub fn none_held(h: Held) -> bool
-    ensures { result ≡ none_held h }
-{
-    match h {
-        Held::None => true,
-        Held::Answer(_) => false,
-    }
-}
-
+// Setters: each is a part of the definition of the same name, which the promises of the calls above go by.
 pub fn set_state(f: Front, state: State) -> Front
     ensures { result ≡ with_state f state }
 {
     Front { state, ..f }
 }
 
-pub fn set_round(f: Front, round: Round) -> Front
+pub fn set_round(f: Front, round: Option<Round>) -> Front
     ensures { result ≡ with_round f round }
 {
     Front { round, ..f }
 }
 
-pub fn set_held(f: Front, held: Held) -> Front
+pub fn set_held(f: Front, held: Option<Verdict>) -> Front
     ensures { result ≡ with_held f held }
 {
     Front { held, ..f }
@@ -202,14 +145,11 @@ pub fn power(t: Tag, field: bool) -> Tag
     let front = Front {
         field,
         state: State::Ready,
-        round: Round::None,
-        held: Held::None,
+        round: None,
+        held: None,
         ..f
     };
-    let keys = Keys {
-        session: Session::None,
-        ..k
-    };
+    let keys = Keys { session: None, ..k };
     let vault = Vault { keys, ..v };
     Tag { front, vault }
 }

@@ -8,10 +8,9 @@ use native.Mathlib.Omega.{arith}
 use native.Mathlib.Decide.{ℕ_discrete}
 use lib.Dec.{leb, eqb}
 use borrow.Author.Tests.{leb-true, ne_eqb}
+use Rattle.std.specs.Prelude.{Result, Ok, Err}
 use Rattle.rights.specs.declared.Vault.{Vault}
 use Rattle.rights.specs.declared.View.{View}
-use Rattle.rights.specs.declared.registers.RegisterRead.{RegisterRead}
-use Rattle.rights.specs.declared.registers.RegisterRead.TheVariants as read
 use Rattle.rights.specs.Vault.{view_of}
 use Rattle.rights.specs.Registers.{one_if, register_at, is_register, allows, with_register}
 use Rattle.rights.proofs.Cases.{both}
@@ -42,9 +41,9 @@ each_address P address p04 p05 p06 p07 p08 p09 p0A p0F rest =
 
 -- ---- reading and writing know the same addresses
 
-abbrev pub is_value : RegisterRead → Bool
-is_value (read.Error c) = false
-is_value (read.Value x) = true
+abbrev pub is_value : Result ℕ ℕ → Bool
+is_value (Err c) = false
+is_value (Ok x) = true
 
 past : (n a : ℕ) → n ≤ a → (a ≡ n → ⊥) → suc n ≤ a
 past n a h d = omega arith
@@ -65,7 +64,7 @@ no_register address n = rw (ne_eqb _ _ n.not0_f) (go (leb 0x04 address && leb ad
         absurd (too_far address past10 (leb-true address 0x0A w.1))
 
 -- "Unknown 10h"
-unknown_read : (v : View) {address : ℕ} → Elsewhere address → register_at v address ≡ read.Error 0x10
+unknown_read : (v : View) {address : ℕ} → Elsewhere address → register_at v address ≡ Err 0x10
 unfolding register_at
 unknown_read v n =
     rw (
@@ -79,11 +78,17 @@ unknown_read v n =
       ne_eqb _ _ n.not0_f,
     )
 
+pub none_read : (v : View) (address : ℕ) → is_register address ≡ false → register_at v address ≡ Err 0x10
+unfolding is_register
+none_read v address =
+    each_address (λ (a : ℕ). is_register a ≡ false → register_at v a ≡ Err 0x10) address
+    (λ h. cc) (λ h. cc) (λ h. cc) (λ h. cc) (λ h. cc) (λ h. cc) (λ h. cc) (λ h. cc) (λ n h. unknown_read v n)
+
 -- and a read has no other error
-pub read_error : (v : View) (address c : ℕ) → register_at v address ≡ read.Error c → c ≡ 0x10
+pub read_error : (v : View) (address c : ℕ) → register_at v address ≡ Err c → c ≡ 0x10
 unfolding register_at
 read_error v address c =
-    each_address (λ (a : ℕ). register_at v a ≡ read.Error c → c ≡ 0x10) address
+    each_address (λ (a : ℕ). register_at v a ≡ Err c → c ≡ 0x10) address
     (λ h. cc) (λ h. cc) (λ h. cc) (λ h. cc) (λ h. cc) (λ h. cc) (λ h. cc) (λ h. cc)
     (λ n h. cc (unknown_read v n))
 
@@ -96,7 +101,7 @@ same_addresses v address =
 -- ---- a register that is written
 
 module _ (v : Vault) (x : ℕ) where
-  abbrev Now : ℕ → ℕ → RegisterRead
+  abbrev Now : ℕ → ℕ → Result ℕ ℕ
   Now address = register_at (view_of (with_register v address x))
 
   pub nothing_written : {address : ℕ} → Elsewhere address → with_register v address x ≡ v
@@ -105,16 +110,16 @@ module _ (v : Vault) (x : ℕ) where
       rw (ne_eqb _ _ n.not04, ne_eqb _ _ n.not05, ne_eqb _ _ n.not06, ne_eqb _ _ n.not07, ne_eqb _ _ n.not08, ne_eqb _ _ n.not09, ne_eqb _ _ n.not0_a, ne_eqb _ _ n.not0_f)
 
   -- LOCK_CFG is a bit
-  bit_read : (y : ℕ) → leb y 0x01 ≡ true → read.Value (one_if (eqb y 0x01)) ≡ read.Value y
+  bit_read : (y : ℕ) → leb y 0x01 ≡ true → ◌≡◌ {A = Result ℕ ℕ} (Ok (one_if (eqb y 0x01))) (Ok y)
   bit_read zero h = refl
   bit_read (suc zero) h = refl
   bit_read (suc (suc y)) h = absurd (omega (arith, leb-true (suc (suc y)) 0x01 h))
 
   -- what is allowed is read back
-  pub read_back : (e address : ℕ) → is_register address ≡ true → allows e v.areas address x ≡ true → Now address address ≡ read.Value x
+  pub read_back : (e address : ℕ) → is_register address ≡ true → allows e v.areas address x ≡ true → Now address address ≡ Ok x
   unfolding register_at with_register allows is_register
   read_back e address =
-      each_address (λ (a : ℕ). is_register a ≡ true → allows e v.areas a x ≡ true → Now a a ≡ read.Value x) address
+      each_address (λ (a : ℕ). is_register a ≡ true → allows e v.areas a x ≡ true → Now a a ≡ Ok x) address
       (λ r h. refl) (λ r h. refl) (λ r h. refl) (λ r h. refl) (λ r h. refl) (λ r h. refl) (λ r h. refl) (λ r h. bit_read x h)
       (λ n r h. let z : ◌≡◌ {A = ℕ} 0 1 = cc (no_register address n) in absurd (omega arith))
 

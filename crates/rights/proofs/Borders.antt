@@ -6,7 +6,7 @@ use Prim.Native.Nat.{ℕ, ◌+◌, ◌≤◌}
 use native.Mathlib.Omega.{arith}
 use lib.Dec.{leb, eqb}
 use borrow.Author.Tests.{eqb-true, leb-true, le-leb, ne_eqb, le-ltb, not-true, not-false}
-use Rattle.std.specs.Prelude.{if◌then◌else◌}
+use Rattle.std.specs.Prelude.{if◌then◌else◌, Option}
 use Rattle.rights.specs.declared.Areas.{Areas}
 use Rattle.rights.specs.declared.Session.{Session}
 use Rattle.rights.specs.declared.View.{View}
@@ -25,7 +25,7 @@ unfolding writable_at may_write
 never_written v b e = rw e
 
 -- "With password bits 00 no session serves."
-pub none_serves : (s : Session) → serves s 0 ≡ false
+pub none_serves : (s : Option Session) → serves s 0 ≡ false
 unfolding serves
 none_serves s = refl
 

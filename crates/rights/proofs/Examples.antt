@@ -4,13 +4,12 @@ use Prim.Native.Nat.{ℕ}
 use mathlib.Core.Path.{◌≡◌, refl}
 use mathlib.Core.Bool.{false}
 use mathlib.Core.List.{List, [], ◌∷◌, map}
+use Rattle.std.specs.Prelude.{Some, Ok, Err}
 use Rattle.rights.specs.declared.Areas.{Areas}
 use Rattle.rights.specs.declared.Vault.{Vault}
 use Rattle.rights.specs.declared.Session.TheVariants.{Configuration}
-use Rattle.rights.specs.declared.Verdict.{Verdict}
-use Rattle.rights.specs.declared.Verdict.TheVariants.{Success, Error}
+use Rattle.rights.specs.Verdict.{Verdict, after_verdict}
 use Rattle.rights.specs.Vault.{view_of}
-use Rattle.rights.specs.Verdict.{after_verdict}
 use Rattle.rights.specs.Passwords.{is_open}
 use Rattle.rights.specs.Blocks.{area_of}
 use Rattle.rights.specs.Registers.{is_register, allows, permits, register_verdict, with_register}
@@ -62,18 +61,18 @@ step a v d = record { address = a; value = v; answer = d }
 
 pub steps : List Step
 steps =
-    step 0x09 0xFF (Error 0x13)
-    ∷ step 0x05 0x3F Success
-    ∷ step 0x07 0x5F Success
-    ∷ step 0x09 0xBF Success
-    ∷ step 0x09 0xFF Success
-    ∷ step 0x07 0xFF Success
-    ∷ step 0x05 0x7F Success
+    step 0x09 0xFF (Err 0x13)
+    ∷ step 0x05 0x3F (Ok tt)
+    ∷ step 0x07 0x5F (Ok tt)
+    ∷ step 0x09 0xBF (Ok tt)
+    ∷ step 0x09 0xFF (Ok tt)
+    ∷ step 0x07 0xFF (Ok tt)
+    ∷ step 0x05 0x7F (Ok tt)
     ∷ []
 
 pub configured : Vault
 configured =
-    record { areas = ends 0x10 0xFF 0xFF; lock0 = false; lock1 = false; lockcfg = false; keys = record { passwords = 0 ∷ 0 ∷ 0 ∷ 0 ∷ []; session = Configuration } }
+    record { areas = ends 0x10 0xFF 0xFF; lock0 = false; lock1 = false; lockcfg = false; keys = record { passwords = 0 ∷ 0 ∷ 0 ∷ 0 ∷ []; session = Some Configuration } }
 
 pub answers : Vault → List Step → List Verdict
 answers v [] = []

@@ -7,12 +7,10 @@ use Prim.Native.Nat.{ℕ, suc, ◌+◌, ◌≤◌, ◌<◌}
 use native.Mathlib.Omega.{arith}
 use lib.Dec.{leb, ltb, eqb}
 use borrow.Author.Tests.{leb-true, leb-false, ltb-false, le-leb, le-ltb, eq-eqb, ne_eqb, eqb-true, not-false}
-use Rattle.std.specs.Prelude.{if◌then◌else◌}
+use Rattle.std.specs.Prelude.{if◌then◌else◌, Option, None, Ok}
 use Rattle.rights.specs.declared.Keys.{Keys}
 use Rattle.rights.specs.declared.Session.{Session}
-use Rattle.rights.specs.declared.Session.TheVariants.{None}
 use Rattle.rights.specs.declared.View.{View}
-use Rattle.rights.specs.declared.Verdict.TheVariants.{Success}
 use Rattle.rights.specs.declared.passwords.Presentation.{Presentation}
 use Rattle.rights.specs.Passwords.{session_of, is_open, password_of, present_of}
 use Rattle.rights.specs.Blocks.{area_of, register_of, named, protection, serves, may_read, readable_at, writable_at, locked_at, barred_at, any_barred, hidden_by, in_session, OnlyThis, OnlyThese}
@@ -56,7 +54,7 @@ open_is n k e = go (leb n 3) refl
         let z : ◌≡◌ {A = ℕ} 0 1 = cc in absurd (omega arith)
 
 -- the register of a block that is not readable to all, but in a session
-guarded_in : (i f : ℕ) (s : Session) → may_read i f None ≡ false → may_read i f s ≡ true
+guarded_in : (i f : ℕ) (s : Option Session) → may_read i f None ≡ false → may_read i f s ≡ true
     → ((not (eqb i 1) ≡ true) × (leb 2 (protection f) ≡ true)) × (is_open s (named f) ≡ true)
 unfolding may_read serves is_open
 guarded_in i f s h k = go (eqb i 1) (ltb (protection f) 2) refl (eqb (named f) 0) h k
@@ -161,6 +159,6 @@ present_same k l n w s e =
     (if_both SamePresented (not (eqb (password_of l n) w)) (record { answer = refl; session = refl }) (record { answer = refl; session = refl })))
 
 -- a register is written only in the configuration session
-pub written_open : (e : ℕ) (v : View) (address x : ℕ) → register_verdict e v address x ≡ Success → is_open v.session 0 ≡ true
+pub written_open : (e : ℕ) (v : View) (address x : ℕ) → register_verdict e v address x ≡ Ok tt → is_open v.session 0 ≡ true
 unfolding permits
 written_open e v address x h = (both (is_open v.session 0) (not v.lockcfg) (done_allowed e v address x h).0).0

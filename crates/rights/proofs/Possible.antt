@@ -6,15 +6,13 @@ use Prim.Native.Nat.{ℕ}
 use native.Mathlib.Omega.{arith}
 use lib.Dec.{leb, ltb, eqb}
 use borrow.Author.Tests.{eqb-true, leb-true, ltb-true, le-leb, eq-eqb, ne_eqb}
-use Rattle.std.specs.Prelude.{if◌then◌else◌}
+use Rattle.std.specs.Prelude.{if◌then◌else◌, Ok, Err}
 use Rattle.rights.specs.declared.Areas.{Areas}
 use Rattle.rights.specs.declared.Vault.{Vault}
 use Rattle.rights.specs.declared.View.{View}
-use Rattle.rights.specs.declared.Verdict.{Verdict}
-use Rattle.rights.specs.declared.Verdict.TheVariants.{Success, Error}
+use Rattle.rights.specs.Verdict.{Verdict, after_verdict}
 use Rattle.rights.specs.Vault.{view_of}
 use Rattle.rights.specs.Registers.{is_register, allows, permits, register_verdict, with_register, register_rule, end_rule, pair_rule, possible}
-use Rattle.rights.specs.Verdict.{after_verdict}
 use Rattle.rights.proofs.Cases.{or_true, not_or, both, join}
 use Rattle.rights.proofs.Addresses.{each_address, nothing_written}
 
@@ -146,11 +144,11 @@ module _ (e : ℕ) (v : Vault) (x : ℕ) (p : Possible e v.areas) where
       each_address Keeps address rfa1ss enda1 rfa2ss enda2 rfa3ss enda3 rfa4ss lockcfg (λ n h. rw (nothing_written v x n) p)
 
 -- a write is done only where it is permitted and allowed
-pub done_allowed : (e : ℕ) (v : View) (address x : ℕ) → register_verdict e v address x ≡ Success → (permits v ≡ true) × (allows e v.areas address x ≡ true)
+pub done_allowed : (e : ℕ) (v : View) (address x : ℕ) → register_verdict e v address x ≡ Ok tt → (permits v ≡ true) × (allows e v.areas address x ≡ true)
 unfolding register_verdict
 done_allowed e v address x h = go (is_register address) (permits v) (allows e v.areas address x) h
   where
-    go : (r p a : Bool) → (if not r then Error 0x10 else if not p then Error 0x0F else if not a then Error 0x13 else Success) ≡ Success
+    go : (r p a : Bool) → (if◌then◌else◌ {A = Verdict} (not r) (Err 0x10) (if not p then Err 0x0F else if not a then Err 0x13 else Ok tt)) ≡ Ok tt
         → (p ≡ true) × (a ≡ true)
     go false p a h = let z : ◌≡◌ {A = ℕ} 0 1 = cc in absurd (omega arith)
     go true false a h = let z : ◌≡◌ {A = ℕ} 0 1 = cc in absurd (omega arith)
@@ -158,14 +156,14 @@ done_allowed e v address x h = go (is_register address) (permits v) (allows e v.
     go true true true h = (refl, refl)
 
 -- the registers after a write that is done
-pub done_possible : (e : ℕ) (v : Vault) (address x : ℕ) → possible e v.areas ≡ true → register_verdict e (view_of v) address x ≡ Success
+pub done_possible : (e : ℕ) (v : Vault) (address x : ℕ) → possible e v.areas ≡ true → register_verdict e (view_of v) address x ≡ Ok tt
     → possible e (with_register v address x).areas ≡ true
 done_possible e v address x p h = ruled (keeps e v x (rules p) address (done_allowed e (view_of v) address x h).1)
 
-after : (e : ℕ) (v u : Vault) (d : Verdict) → possible e v.areas ≡ true → (d ≡ Success → possible e u.areas ≡ true)
+after : (e : ℕ) (v u : Vault) (d : Verdict) → possible e v.areas ≡ true → (d ≡ Ok tt → possible e u.areas ≡ true)
     → possible e (after_verdict d v u).areas ≡ true
-after e v u Success p h = h refl
-after e v u (Error c) p h = p
+after e v u (Ok tt) p h = h refl
+after e v u (Err c) p h = p
 
 -- the theorem: whatever is written, possible registers stay possible, for any E
 pub stays_possible : (e : ℕ) (v : Vault) (address x : ℕ) → possible e v.areas ≡ true

@@ -7,12 +7,11 @@ use Prim.Native.Nat.{ℕ, ◌^◌, ◌≤◌, ◌<◌}
 use native.Mathlib.Omega.{arith}
 use lib.ListN.{length}
 use lib.Dec.{eqb}
+use Rattle.std.specs.Prelude.{Result, Ok, Err}
 use Rattle.put.proofs.Bytes.{Below, Bytes, none, more}
 use Rattle.rights.specs.declared.Areas.{Areas}
 use Rattle.rights.specs.declared.Vault.{Vault}
 use Rattle.rights.specs.declared.View.{View}
-use Rattle.rights.specs.declared.registers.RegisterRead.{RegisterRead}
-use Rattle.rights.specs.declared.registers.RegisterRead.TheVariants as read
 use Rattle.rights.specs.Blocks.{barred_at, status_at}
 use Rattle.rights.specs.Registers.{one_if, registers_of, register_at, with_areas, with_register}
 use Rattle.rights.proofs.Cases.{if_one}
@@ -26,11 +25,11 @@ at_most_one true = omega arith
 at_most_one false = omega arith
 
 -- the byte that is read of a register
-abbrev pub told : RegisterRead → List ℕ
-told (read.Error c) = []
-told (read.Value x) = x ∷ []
+abbrev pub told : Result ℕ ℕ → List ℕ
+told (Err c) = []
+told (Ok x) = x ∷ []
 
-abbrev Told : RegisterRead → Type 0
+abbrev Told : Result ℕ ℕ → Type 0
 Told r = Bytes (told r)
 
 pub read_bytes : (v : View) (address : ℕ) → Bytes (registers_of v.areas) → Bytes (told (register_at v address))

@@ -1,25 +1,12 @@
--- Runs of blocks, one block after the other.
+-- Runs of blocks: whether one of them is barred, as the library's test of a list of numbers.
 -- Assumes nothing.
 use mathlib.Core.Path.{◌≡◌, refl}
-use mathlib.Core.Bool.{true, false}
-use Prim.Native.Nat.{ℕ, zero, suc, ◌+◌, ◌-◌, ◌≤◌, ◌<◌}
-use native.Mathlib.Numerals.{sub-one}
-use native.Mathlib.Omega.{arith}
+use Prim.Native.Nat.{ℕ, zero, suc, ◌+◌}
+use Rattle.std.specs.List.{list_any, range_with_len}
 use Rattle.rights.specs.declared.View.{View}
 use Rattle.rights.specs.Blocks.{barred_at, any_barred}
 
-module _ (v : View) (b : ℕ) where
-  pub barred_here : (n : ℕ) → 0 < n → barred_at v b ≡ true → any_barred v b n ≡ true
-  unfolding any_barred
-  barred_here zero h e = absurd (omega arith)
-  barred_here (suc n) h e = rw e
-
-  pub barred_later : (n : ℕ) → 0 < n → barred_at v b ≡ false → any_barred v b n ≡ any_barred v (b + 1) (n - 1)
-  unfolding any_barred
-  barred_later zero h e = absurd (omega arith)
-  barred_later (suc n) h e = rw (e, sub-one)
-
-  pub none_left : (n : ℕ) → n ≤ 0 → any_barred v b n ≡ false
-  unfolding any_barred
-  none_left zero h = refl
-  none_left (suc n) h = absurd (omega arith)
+pub any_as_list : (v : View) (b n : ℕ) → any_barred v b n ≡ list_any (barred_at v) (range_with_len b n)
+unfolding any_barred
+any_as_list v b zero = refl
+any_as_list v b (suc n) = rw (any_as_list v (b + 1) n)

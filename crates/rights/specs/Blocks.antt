@@ -1,6 +1,6 @@
 -- "Blocks and areas": which area a block is in, and what its register lets the open session do there.
 -- Assumes nothing.
-use Rattle.std.specs.Prelude.{ℕ, zero, suc, ◌+◌, ◌*◌, ◌/◌, ◌%◌, ◌≡◌, Bool, true, false, not, ◌&&◌, ◌||◌, leb, ltb, eqb, if◌then◌else◌}
+use Rattle.std.specs.Prelude.{ℕ, zero, suc, ◌+◌, ◌*◌, ◌/◌, ◌%◌, ◌≡◌, Bool, true, false, not, ◌&&◌, ◌||◌, leb, ltb, eqb, if◌then◌else◌, Option}
 use Rattle.rights.specs.declared.Areas.{Areas}
 use Rattle.rights.specs.declared.Session.{Session}
 use Rattle.rights.specs.declared.View.{View}
@@ -32,18 +32,18 @@ abbrev pub protection : ℕ → ℕ
 protection f = f / 4 % 4
 
 -- "With password bits 00 no session serves."
-unfoldable pub serves : Session → ℕ → Bool
+unfoldable pub serves : Option Session → ℕ → Bool
 serves s n = if eqb n 0 then false else is_open s n
 
 -- "Area 1 is always readable"; "Areas 2 to 4: 00 read and write always; 01 read always, write in session; 10 both in session; 11 read in
 -- session, write never."
-unfoldable pub may_read : ℕ → ℕ → Session → Bool
+unfoldable pub may_read : ℕ → ℕ → Option Session → Bool
 may_read i f s =
     if eqb i 1 then true else
     if ltb (protection f) 2 then true else serves s (named f)
 
 -- Area 1, "write: 00 always, 01 and 10 in session, 11 never", and so in Areas 2 to 4
-unfoldable pub may_write : ℕ → Session → Bool
+unfoldable pub may_write : ℕ → Option Session → Bool
 may_write f s =
     if eqb (protection f) 0 then true else
     if eqb (protection f) 3 then false else serves s (named f)
@@ -86,18 +86,18 @@ hidden_by chosen a b =
     && (leb 2 (protection (register_of a (area_of a b))) && chosen (named (register_of a (area_of a b))))
 
 -- the same registers and locks, with another session open
-abbrev pub in_session : View → Session → View
+abbrev pub in_session : View → Option Session → View
 in_session v s = record { areas = v.areas; lock0 = v.lock0; lock1 = v.lock1; lockcfg = v.lockcfg; session = s }
 
 -- block b is readable in the session of password p, and in no session that is not p's. Of one password p, 1 to 3, `hidden_by` says just this, by
 -- the law hidden_by_one
 pub record OnlyThis (p : ℕ) (v : View) (b : ℕ) : Type 0 where
   pub opens : readable_at (in_session v (session_of p)) b ≡ true
-  pub others : (s : Session) → is_open s p ≡ false → readable_at (in_session v s) b ≡ false
+  pub others : (s : Option Session) → is_open s p ≡ false → readable_at (in_session v s) b ≡ false
 
 -- the same of a set of passwords 1 to 3: in the session of one of them, and in no session that is none of theirs; by the law hidden_only
 pub record OnlyThese (chosen : ℕ → Bool) (v : View) (b : ℕ) : Type 0 where
   pub by : ℕ
   pub one : chosen by ≡ true
   pub opens : readable_at (in_session v (session_of by)) b ≡ true
-  pub others : (s : Session) → ((n : ℕ) → chosen n ≡ true → is_open s n ≡ false) → readable_at (in_session v s) b ≡ false
+  pub others : (s : Option Session) → ((n : ℕ) → chosen n ≡ true → is_open s n ≡ false) → readable_at (in_session v s) b ≡ false

@@ -5,6 +5,8 @@ ghost use Rattle.rights.specs.Blocks.{area_of, register_of, serves, readable_at,
 use super::passwords::is_open;
 use super::{Areas, Session, View};
 
+// The number of the area, 1 to 4: the documents number areas, and so do the definitions.
+#[tactic(auto, unfolding(crate::specs::Blocks::area_of))]
 fn area(a: Areas, block: usize) -> u8
     ensures { result ≡ area_of a block }
 {
@@ -20,6 +22,7 @@ fn area(a: Areas, block: usize) -> u8
     4
 }
 
+#[tactic(auto, unfolding(crate::specs::Blocks::register_of))]
 fn register(a: Areas, area: u8) -> u8
     ensures { result ≡ register_of a area }
 {
@@ -32,44 +35,35 @@ fn register(a: Areas, area: u8) -> u8
 }
 
 // "With password bits 00 no session serves."
-fn in_session(s: Session, named: u8) -> bool
+#[tactic(auto, unfolding(crate::specs::Blocks::serves))]
+fn in_session(s: Option<Session>, named: u8) -> bool
     ensures { result ≡ serves s named }
 {
-    if named == 0 {
-        return false;
-    }
-    is_open(s, named)
+    named != 0 && is_open(s, named)
 }
 
+#[tactic(auto, unfolding(crate::specs::Blocks::readable_at, crate::specs::Blocks::may_read))]
 pub fn readable(v: View, block: usize) -> bool
     ensures { result ≡ readable_at v block }
 {
-    let areas = v.areas;
-    let i = area(areas, block);
-    if i == 1 {
-        return true;
-    }
-    let f = register(areas, i);
-    if f / 4 % 4 < 2 {
-        return true;
-    }
-    let s = v.session;
-    in_session(s, f % 4)
+    let i = area(v.areas, block);
+    let f = register(v.areas, i);
+    i == 1 || f / 4 % 4 < 2 || in_session(v.session, f % 4)
 }
 
+#[tactic(auto, unfolding(crate::specs::Blocks::writable_at, crate::specs::Blocks::may_write))]
 pub fn writable(v: View, block: usize) -> bool
     ensures { result ≡ writable_at v block }
 {
-    let areas = v.areas;
-    let s = v.session;
-    let f = register(areas, area(areas, block));
+    let f = register(v.areas, area(v.areas, block));
     match f / 4 % 4 {
         0 => true,
         3 => false,
-        _ => in_session(s, f % 4),
+        _ => in_session(v.session, f % 4),
     }
 }
 
+#[tactic(auto, unfolding(crate::specs::Blocks::locked_at))]
 pub fn locked(v: View, block: usize) -> bool
     ensures { result ≡ locked_at v block }
 {
@@ -81,25 +75,22 @@ pub fn locked(v: View, block: usize) -> bool
 }
 
 // "locked or not writable now"
+#[tactic(auto, unfolding(crate::specs::Blocks::barred_at))]
 pub fn barred(v: View, block: usize) -> bool
     ensures { result ≡ barred_at v block }
 {
-    if locked(v, block) {
-        return true;
-    }
-    !writable(v, block)
+    locked(v, block) || !writable(v, block)
 }
 
+#[tactic(auto, unfolding(crate::specs::Blocks::status_at))]
 pub fn status(v: View, block: usize) -> u8
     ensures { result ≡ status_at v block }
 {
-    if barred(v, block) {
-        return 1;
-    }
-    0
+    u8::from(barred(v, block))
 }
 
 // Whether the run from first, with so many blocks more, crosses an area border.
+#[tactic(auto, unfolding(crate::specs::Blocks::crosses_at))]
 pub fn crosses(a: Areas, first: u16, more: u16) -> bool
     ensures { result ≡ crosses_at a first more }
 {
@@ -111,14 +102,6 @@ pub fn crosses(a: Areas, first: u16, more: u16) -> bool
 pub fn any_barred(v: View, first: u16, count: u16) -> bool
     ensures { result ≡ any_barred v first count }
 {
-    let mut block = first as usize;
-    let mut left = count;
-    while left > 0 {
-        if barred(v, block) {
-            return true;
-        }
-        block += 1;
-        left -= 1;
-    }
-    false
+    let first = first as usize;
+    (first..first + count as usize).any(|block| barred(v, block))
 }

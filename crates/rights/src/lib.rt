@@ -9,10 +9,9 @@ pub mod registers; // registers.rt: reading and writing a register, possible reg
 ghost use Rattle.std.specs.Prelude.{◌≡◌};
 ghost use Rattle.rights.specs.Vault.{view_of};
 
-// "the one open session or none"
-#[derive(Clone, Copy)]
+// The session of each password
+#[derive(Clone, Copy, Debug, PartialEq, Eq)]
 pub enum Session {
-    None,
     Configuration,
     User1,
     User2,
@@ -31,11 +30,11 @@ pub struct Areas {
     pub rfa4ss: u8,
 }
 
-// "four 64-bit passwords (number 0 is configuration)", lasting, and the open session, passing
+// "four 64-bit passwords (number 0 is configuration)", lasting, and "the one open session or none", passing
 #[derive(Clone, Copy)]
 pub struct Keys {
     pub passwords: [u64; 4],
-    pub session: Session,
+    pub session: Option<Session>,
 }
 
 // What the tag guards its memory with: registers, the locks of blocks 0 and 1, LOCK_CFG, and the keys
@@ -55,27 +54,21 @@ pub struct View {
     pub lock0: bool,
     pub lock1: bool,
     pub lockcfg: bool,
-    pub session: Session,
+    pub session: Option<Session>,
 }
 
-// "Success begins 00h; an error is 01h, code"
-#[derive(Clone, Copy)]
-pub enum Verdict {
-    Success,
-    Error(u8),
-}
+// "Success begins 00h; an error is 01h, code". The code is the document's number. It is a byte and no enum: a record from outside may hold any
+// (`host` refuses one with a code that the document does not have), and variants could only be named by their numbers again.
+pub type Verdict = Result<(), u8>;
 
 pub fn seen(v: Vault) -> View
     ensures { result ≡ view_of v }
 {
-    let areas = v.areas;
-    let keys = v.keys;
-    let session = keys.session;
     View {
-        areas,
+        areas: v.areas,
         lock0: v.lock0,
         lock1: v.lock1,
         lockcfg: v.lockcfg,
-        session,
+        session: v.keys.session,
     }
 }

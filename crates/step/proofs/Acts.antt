@@ -3,32 +3,26 @@
 use Prim.Native.Nat.{ℕ}
 use mathlib.Core.Bool.{Bool, true, false, ◌&&◌}
 use mathlib.Core.Path.{◌≡◌, refl, sym, ap, subst}
-use native.Mathlib.Omega.{arith}
-use mathlib.Core.List.{List, [], ◌∷◌}
-use Rattle.std.specs.Prelude.{if◌then◌else◌}
+use mathlib.Core.List.{List, ◌∷◌}
+use Rattle.std.specs.Prelude.{if◌then◌else◌, Option, Ok, Err}
 use Rattle.put.specs.Put.{Put}
 use Rattle.rights.specs.declared.View.{View}
-use Rattle.rights.specs.declared.Verdict.{Verdict}
-use Rattle.rights.specs.declared.Verdict.TheVariants.{Success, Error}
-use Rattle.rights.specs.Verdict.{after_verdict}
+use Rattle.rights.specs.Verdict.{Verdict, after_verdict, granting}
 use Rattle.rights.specs.Vault.{view_of}
-use Rattle.rights.specs.Passwords.{with_password}
-use Rattle.rights.specs.Registers.{with_register}
 use Rattle.record.specs.declared.Front.{Front}
 use Rattle.record.specs.declared.Tag.{Tag}
 use Rattle.record.specs.declared.Round.{Round}
-use Rattle.record.specs.declared.Held.{Held}
-use Rattle.record.specs.Update.{with_front, with_vault, with_keys, passing_cleared, sessionless}
+use Rattle.record.specs.Update.{with_front, passing_cleared, sessionless}
 use Rattle.tag.specs.declared.Command.{Command}
 use Rattle.tag.specs.declared.Entry.{Entry}
-use Rattle.tag.specs.Work.{Answer, silence, verdict, body, Unit, register, password, says, writes, closes, work, apply_to_tag, apply_to_memory, perform}
+use Rattle.tag.specs.Work.{Answer, silence, verdict, body, Unit, says, writes, closes, work, apply_to_tag, apply_to_memory, perform}
 use Rattle.tag.specs.Blocks.{granted, block_units}
 use Rattle.tag.specs.Commands.{front_after, act_of, is_holding, request_of}
 use Rattle.tag.specs.Rules.{blocks_of}
 use Rattle.tag.specs.Step.{field_on, field_off, round_ends, frame_ends, work_of, performed, step}
 use Rattle.tag.proofs.Acts.{blocks_leave}
-use Rattle.step.specs.declared.Said.{Said}
-use Rattle.step.specs.Gives.{GivesUnsealed, Does, concluded, unsealed_of}
+use Rattle.record.specs.declared.Outcome.{Outcome}
+use Rattle.step.specs.Gives.{GivesUnsealed, Does, concluded, tag_after, verdict_of, unsealed_of}
 use Rattle.step.proofs.Unsealed.{unsealed_sealed, unsealed_line}
 
 -- an answer that is given at once
@@ -50,47 +44,23 @@ unfolding perform
 quiet true t m = record { result = refl; memory = refl; room = refl }
 quiet false t m = record { result = refl; memory = refl; room = refl }
 
-module _ (hold : Bool) (t : Tag) {x x' : List ℕ} {r : Said} where
-  -- a write that touches the record alone
-  pub written : (v : Verdict) (us : List Unit) → ((m : List ℕ) → apply_to_memory us m ≡ m)
-      → Does hold (after_verdict v t (apply_to_tag us t)) (says (verdict v)) x x' r → Does hold t (granted v (writes us)) x x' r
-  unfolding perform
-  written Success us e d m = rw (e m) (d m)
-  written (Error c) us e d m = d m
-
-  -- a password changed, and a register written, as rights gives them
-  pub password_written : (v : Verdict) (n w : ℕ)
-      → Does hold (with_vault t (with_keys t.vault (after_verdict v t.vault.keys (with_password t.vault.keys n w)))) (says (verdict v)) x x' r
-      → Does hold t (granted v (writes (password n w ∷ []))) x x' r
-  unfolding perform apply_to_tag apply_to_memory
-  password_written Success n w d m = d m
-  password_written (Error c) n w d m = d m
-
-  pub register_written : (v : Verdict) (address value : ℕ)
-      → Does hold (with_vault t (after_verdict v t.vault (with_register t.vault address value))) (says (verdict v)) x x' r
-      → Does hold t (granted v (writes (register address value ∷ []))) x x' r
-  unfolding perform apply_to_tag apply_to_memory
-  register_written Success address value d m = d m
-  register_written (Error c) address value d m = d m
+-- what changes the record alone, as a function of the code makes it
+pub written : (hold : Bool) (t : Tag) (v : Verdict) (us : List Unit) {next : Tag} {x x' : List ℕ} {r : Outcome}
+    → ((m : List ℕ) → apply_to_memory us m ≡ m) → next ≡ apply_to_tag us t
+    → Does hold (tag_after (granting v next) t) (says (verdict (verdict_of (granting v next)))) x x' r
+    → Does hold t (granted v (writes us)) x x' r
+unfolding perform
+written hold t (Ok u) us e f d m = rw (e m, ← f) (d m)
+written hold t (Err c) us e f d m = d m
 
 -- and blocks, which touch the memory alone
-pub blocks_written : (hold : Bool) (t : Tag) (first n : ℕ) (bytes m m' : List ℕ) {x x' : List ℕ} {r : Said}
-    → m' ≡ apply_to_memory (block_units first n bytes) m → Does hold t (says (verdict Success)) x x' r
-    → GivesUnsealed (concluded hold (perform t m (writes (block_units first n bytes)))) x m' x' r
+pub blocks_written : (hold : Bool) (t : Tag) (v : Verdict) (first n : ℕ) (bytes m : List ℕ) {m' x x' : List ℕ} {r : Outcome}
+    → m' ≡ after_verdict v m (apply_to_memory (block_units first n bytes) m)
+    → Does hold t (says (verdict v)) x x' r
+    → GivesUnsealed (concluded hold (perform t m (granted v (writes (block_units first n bytes))))) x m' x' r
 unfolding perform
-blocks_written hold t first n bytes m m' e d = rw (blocks_leave first n bytes t, ← e) (d m')
-
--- a verdict that is granted is success
-pub granted_success : (v : Verdict) → after_verdict v false true ≡ true → v ≡ Success
-granted_success Success h = refl
-granted_success (Error c) h = let z : ◌≡◌ {A = ℕ} 0 1 = cc in absurd (omega arith)
-
--- what is not granted is answered, and nothing is done
-pub refused : (hold : Bool) (t : Tag) (v : Verdict) (us : List Unit) (m : List ℕ) {x x' : List ℕ} {r : Said} → after_verdict v false true ≡ false
-    → Does hold t (says (verdict v)) x x' r → GivesUnsealed (concluded hold (perform t m (granted v (writes us)))) x m x' r
-unfolding perform
-refused hold t Success us m h d = let z : ◌≡◌ {A = ℕ} 0 1 = cc in absurd (omega arith)
-refused hold t (Error c) us m h d = d m
+blocks_written hold t (Ok u) first n bytes m {m'} e d = rw (blocks_leave first n bytes t, ← e) (d m')
+blocks_written hold t (Err c) first n bytes m {m'} e d = rw e (d m)
 
 -- a request by its command
 request_is : (f : Front) (v : View) (blocks : ℕ) (e : Entry) (option : Bool) (fields : List ℕ) {c : Command} → e.command ≡ c
@@ -100,7 +70,7 @@ unfolding request_of
 request_is f v blocks e option fields h =
     ap (λ (c : Command). record { front = front_after c f; hold = option && is_holding e.option; act = act_of c f v blocks e option fields }) h
 
-pub request_gives : (t : Tag) (m : List ℕ) (e : Entry) (option hold : Bool) (fields : List ℕ) {c : Command} {x m' x' : List ℕ} {r : Said}
+pub request_gives : (t : Tag) (m : List ℕ) (e : Entry) (option hold : Bool) (fields : List ℕ) {c : Command} {x m' x' : List ℕ} {r : Outcome}
     → e.command ≡ c
     → hold ≡ (option && is_holding e.option)
     → GivesUnsealed (concluded hold (perform (with_front t (front_after c t.front)) m
@@ -110,14 +80,14 @@ request_gives t m e option hold fields h k g = rw (request_is t.front (view_of t
 
 -- ---- the end of a frame, by what is held and by the round
 
-module _ (t : Tag) (m : List ℕ) {x m' x' : List ℕ} {s : Said} where
-  pub round_gives : {r : Round} → t.front.round ≡ r → GivesUnsealed (performed t m (round_ends r t.front)) x m' x' s
+module _ (t : Tag) (m : List ℕ) {x m' x' : List ℕ} {s : Outcome} where
+  pub round_gives : {r : Option Round} → t.front.round ≡ r → GivesUnsealed (performed t m (round_ends r t.front)) x m' x' s
       → GivesUnsealed (performed t m (round_ends t.front.round t.front)) x m' x' s
-  round_gives h g = subst (λ (r : Round). GivesUnsealed (performed t m (round_ends r t.front)) x m' x' s) (sym h) g
+  round_gives h g = subst (λ (r : Option Round). GivesUnsealed (performed t m (round_ends r t.front)) x m' x' s) (sym h) g
 
-  pub held_gives : {h : Held} → t.front.held ≡ h → GivesUnsealed (performed t m (frame_ends h t.front)) x m' x' s
+  pub held_gives : {h : Option Verdict} → t.front.held ≡ h → GivesUnsealed (performed t m (frame_ends h t.front)) x m' x' s
       → GivesUnsealed (performed t m (frame_ends t.front.held t.front)) x m' x' s
-  held_gives h g = subst (λ (k : Held). GivesUnsealed (performed t m (frame_ends k t.front)) x m' x' s) (sym h) g
+  held_gives h g = subst (λ (k : Option Verdict). GivesUnsealed (performed t m (frame_ends k t.front)) x m' x' s) (sym h) g
 
 -- ---- the field
 

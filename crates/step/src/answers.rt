@@ -1,19 +1,20 @@
 // Answers, written into the lent room: "Success begins 00h; an error is 01h, code; CRC follows." `seal` puts the CRC to each of them, last.
-ghost use Rattle.std.specs.Prelude.{[], ◌∷◌, ◌+◌, ◌≤◌, length, take, drop};
+// Each returns the length in the room, which is the caller's. Tag, hold and room are handed on one by one: a struct of them would borrow the room for as long
+// as it stands, and be opened for each answer.
+ghost use Rattle.std.specs.Prelude.{◌≡◌, [], ◌∷◌, ◌+◌, ◌≤◌, ◌<◌, length, take, drop};
 ghost use Rattle.put.specs.Put.{Put};
-ghost use Rattle.rights.specs.Verdict.{after_verdict};
 ghost use Rattle.put.specs.Number.{bytes_of};
 ghost use Rattle.tag.specs.Inventory.{inventory_answer};
 ghost use Rattle.tag.specs.Work.{verdict, error, body, says};
-ghost use Rattle.step.specs.Gives.{sealed_unless_silent, unsealed_of, Does};
+ghost use Rattle.step.specs.Gives.{sealed_unless_silent, unsealed_of, Does, tag_after, verdict_of};
 
-use super::Said;
-use record::{Front, Held, Tag};
+use super::ROOM;
+use record::{Front, Outcome, Tag};
 use rights::Verdict;
 
 // "CRC follows.": the CRC of the first n bytes goes after them. Silence, of no bytes, stays silence.
-pub fn seal(n: usize, room: &mut [u8]) -> usize
-    requires { n + 2 ≤ length room.old }
+pub fn seal(n: usize, room: &mut [u8; ROOM]) -> usize
+    requires { n ≤ 10241 }
     ensures { Put (sealed_unless_silent (take n room.old)) room.old room.new result }
 {
     if n == 0 {
@@ -26,8 +27,8 @@ pub fn seal(n: usize, room: &mut [u8]) -> usize
 }
 
 // "Success begins 00h": the flags byte before a body of n bytes that stands from the second byte on.
-pub fn put_success(n: usize, room: &mut [u8]) -> usize
-    requires { n + 3 ≤ length room.old }
+pub fn put_success(n: usize, room: &mut [u8; ROOM]) -> usize
+    requires { n < 10243 }
     ensures { Put (unsealed_of (body (take n (drop 1 room.old)))) room.old room.new result }
 {
     room[0] = 0x00;
@@ -35,8 +36,7 @@ pub fn put_success(n: usize, room: &mut [u8]) -> usize
 }
 
 // "an error is 01h, code"
-fn put_error(code: u8, room: &mut [u8]) -> usize
-    requires { 4 ≤ length room.old }
+fn put_error(code: u8, room: &mut [u8; ROOM]) -> usize
     ensures { Put (unsealed_of (error code)) room.old room.new result }
 {
     room[0] = 0x01;
@@ -44,18 +44,16 @@ fn put_error(code: u8, room: &mut [u8]) -> usize
     2
 }
 
-fn put_verdict(v: Verdict, room: &mut [u8]) -> usize
-    requires { 4 ≤ length room.old }
+fn put_verdict(v: Verdict, room: &mut [u8; ROOM]) -> usize
     ensures { Put (unsealed_of (verdict v)) room.old room.new result }
 {
     match v {
-        Verdict::Success => put_success(0, room),
-        Verdict::Error(code) => put_error(code, room),
+        Ok(()) => put_success(0, room),
+        Err(code) => put_error(code, room),
     }
 }
 
-pub fn put_register(value: u8, room: &mut [u8]) -> usize
-    requires { 4 ≤ length room.old }
+pub fn put_register(value: u8, room: &mut [u8; ROOM]) -> usize
     ensures { Put (unsealed_of (body (value ∷ []))) room.old room.new result }
 {
     room[1] = value;
@@ -72,38 +70,38 @@ fn put_identity(f: Front, out: &mut [u8]) -> usize
 }
 
 // "Answer: 00h, DSFID, UID, CRC.", before its CRC.
-pub fn put_inventory(f: Front, room: &mut [u8]) -> usize
-    requires { 12 ≤ length room.old }
+pub fn put_inventory(f: Front, room: &mut [u8; ROOM]) -> usize
     ensures { Put (unsealed_of (inventory_answer f)) room.old room.new result }
 {
     let n = put_identity(f, &mut room[1..]);
     put_success(n, room)
 }
 
+// No answer: the tag alone.
+pub fn silent(t: Tag) -> Outcome
+    ensures { result ≡ record { length = 0; tag = t } }
+{
+    Outcome { length: 0, tag: t }
+}
+
 // "holds the answer, error or success", or gives it at once.
-pub fn settle(hold: bool, v: Verdict, t: Tag, room: &mut [u8]) -> Said
-    requires { 4 ≤ length room.old }
+pub fn settle(hold: bool, v: Verdict, t: Tag, room: &mut [u8; ROOM]) -> Outcome
     ensures { Does hold t (says (verdict v)) room.old room.new result }
 {
     if hold {
-        let f = t.front;
-        let front = record::set_held(f, Held::Answer(v));
-        return Said {
-            length: 0,
-            tag: record::set_front(t, front),
-        };
+        let front = record::set_held(t.front, Some(v));
+        return silent(record::set_front(t, front));
     }
     let length = put_verdict(v, room);
-    Said { length, tag: t }
+    Outcome { length, tag: t }
 }
 
 // What is refused leaves the tag as it was, and what is granted makes it the next one.
-pub fn conclude(hold: bool, t: Tag, v: Verdict, next: Tag, room: &mut [u8]) -> Said
-    requires { 4 ≤ length room.old }
-    ensures { Does hold (after_verdict v t next) (says (verdict v)) room.old room.new result }
+pub fn conclude(hold: bool, t: Tag, made: Result<Tag, u8>, room: &mut [u8; ROOM]) -> Outcome
+    ensures { Does hold (tag_after made t) (says (verdict (verdict_of made))) room.old room.new result }
 {
-    match v {
-        Verdict::Success => settle(hold, v, next, room),
-        Verdict::Error(_) => settle(hold, v, t, room),
+    match made {
+        Ok(next) => settle(hold, Ok(()), next, room),
+        Err(code) => settle(hold, Err(code), t, room),
     }
 }

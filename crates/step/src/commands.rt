@@ -1,279 +1,184 @@
 // The commands: what each does to record and memory, and what it answers.
-ghost use Rattle.std.specs.Prelude.{◌≡◌, true, false, ◌&&◌, [], ◌∷◌, ◌+◌, ◌*◌, ◌≤◌, length};
+ghost use Rattle.std.specs.Prelude.{◌≡◌, true, ◌&&◌, ◌+◌, ◌*◌, ◌≤◌, length, eqb};
 ghost use Rattle.put.specs.Put.{Put};
-ghost use Rattle.rights.specs.Verdict.{after_verdict};
+ghost use Rattle.rights.specs.Verdict.{after_verdict, granting};
 ghost use Rattle.rights.specs.Vault.{view_of};
-ghost use Rattle.rights.specs.Passwords.{change_verdict};
-ghost use Rattle.rights.specs.Registers.{register_at, register_verdict};
+ghost use Rattle.rights.specs.Passwords.{change_verdict, with_password};
+ghost use Rattle.rights.specs.Registers.{register_at, register_verdict, with_register};
 ghost use Rattle.record.specs.declared.State.TheVariants.{Quiet};
 ghost use Rattle.record.specs.Update.{with_vault, with_keys, with_state, with_front};
 ghost use Rattle.tag.specs.Rules.{blocks_of, last_end};
 ghost use Rattle.tag.specs.Table.{first_of, more_of, head_of, data_of, limit_of};
-ghost use Rattle.tag.specs.Work.{body, afi, afi_lock, dsfid, dsfid_lock, register, password, presents, writes, listing, perform};
-ghost use Rattle.tag.specs.Blocks.{granted, read_of, statuses, status_of, write_of, lock_of};
+ghost use Rattle.tag.specs.Work.{body, presents, listing, perform, apply_to_memory, with_block_lock};
+ghost use Rattle.tag.specs.Blocks.{read_of, statuses, status_of, block_units, lock_verdict};
 ghost use Rattle.tag.specs.Commands.{unless, register_answer, is_holding, request_of};
 ghost use Rattle.tag.specs.Step.{performed};
 ghost use Rattle.tag.specs.Host.{is_memory};
-ghost use Rattle.step.specs.Gives.{unsealed_of, GivesUnsealed, Does, concluded, DataThere};
+ghost use Rattle.step.specs.Gives.{unsealed_of, GivesUnsealed, Does, concluded, verdict_on, DataThere};
 
-use super::Said;
-use super::answers::{conclude, put_register, put_success, settle};
+use super::ROOM;
+use super::answers::{conclude, put_register, put_success, settle, silent};
+use blocks::Run;
 use frame::table;
-use record::{State, Tag};
-use rights::registers::RegisterRead;
+use record::{Front, Outcome, State, Tag};
 use rights::{Keys, Vault, Verdict, View};
 use tag::{Command, Entry, OptionRule};
 
-fn unless_locked(locked: bool, code: u8) -> Verdict
-    ensures { result ≡ unless locked code }
+// "Write AFI 27h, DSFID 29h: locked 12h. Lock AFI 28h, DSFID 2Ah: locked already 11h."
+fn unless_locked(t: Tag, locked: bool, code: u8, front: Front) -> Result<Tag, u8>
+    ensures { result ≡ granting (unless locked code) (with_front t front) }
 {
     if locked {
-        return Verdict::Error(code);
+        return Err(code);
     }
-    Verdict::Success
-}
-
-// "Write AFI 27h .. locked 12h."
-fn write_afi(t: Tag, hold: bool, value: u8, room: &mut [u8]) -> Said
-    requires { 4 ≤ length room.old }
-    ensures { Does hold t (granted (unless t.front.lockafi 0x12) (writes (afi value ∷ []))) room.old room.new result }
-{
-    let f = t.front;
-    let next = record::set_front(t, record::set_afi(f, value));
-    conclude(hold, t, unless_locked(f.lockafi, 0x12), next, room)
-}
-
-// "Lock AFI 28h .. locked already 11h."
-fn lock_afi(t: Tag, hold: bool, room: &mut [u8]) -> Said
-    requires { 4 ≤ length room.old }
-    ensures { Does hold t (granted (unless t.front.lockafi 0x11) (writes (afi_lock ∷ []))) room.old room.new result }
-{
-    let f = t.front;
-    let next = record::set_front(t, record::lock_afi(f));
-    conclude(hold, t, unless_locked(f.lockafi, 0x11), next, room)
-}
-
-// "Write .. DSFID 29h: locked 12h."
-fn write_dsfid(t: Tag, hold: bool, value: u8, room: &mut [u8]) -> Said
-    requires { 4 ≤ length room.old }
-    ensures { Does hold t (granted (unless t.front.lockdsfid 0x12) (writes (dsfid value ∷ []))) room.old room.new result }
-{
-    let f = t.front;
-    let next = record::set_front(t, record::set_dsfid(f, value));
-    conclude(hold, t, unless_locked(f.lockdsfid, 0x12), next, room)
-}
-
-// "Lock .. DSFID 2Ah: locked already 11h."
-fn lock_dsfid(t: Tag, hold: bool, room: &mut [u8]) -> Said
-    requires { 4 ≤ length room.old }
-    ensures { Does hold t (granted (unless t.front.lockdsfid 0x11) (writes (dsfid_lock ∷ []))) room.old room.new result }
-{
-    let f = t.front;
-    let next = record::set_front(t, record::lock_dsfid(f));
-    conclude(hold, t, unless_locked(f.lockdsfid, 0x11), next, room)
+    Ok(record::set_front(t, front))
 }
 
 // "Locks 22h, 32h"
-fn lock(t: Tag, hold: bool, block: u16, room: &mut [u8]) -> Said
-    requires { 4 ≤ length room.old }
-    ensures { Does hold t (lock_of (view_of t.vault) block) room.old room.new result }
+fn lock(t: Tag, block: u16) -> Result<Tag, u8>
+    ensures { result ≡ granting (lock_verdict (view_of t.vault) block) (with_vault t (with_block_lock t.vault (eqb block 1))) }
 {
     let v = t.vault;
-    let next = record::set_vault(t, blocks::lock_block(v, block == 1));
-    let verdict = blocks::lock_verdict(rights::seen(v), block);
-    conclude(hold, t, verdict, next, room)
+    blocks::lock_verdict(rights::seen(v), block)?;
+    Ok(record::set_vault(t, blocks::lock_block(v, block == 1)))
 }
 
 fn with_keys(t: Tag, keys: Keys) -> Tag
     ensures { result ≡ with_vault t (with_keys t.vault keys) }
 {
     let v = t.vault;
-    let vault = Vault { keys, ..v };
-    record::set_vault(t, vault)
+    record::set_vault(t, Vault { keys, ..v })
 }
 
 // "Present B3h"
-fn present(t: Tag, hold: bool, number: u8, value: u64, room: &mut [u8]) -> Said
-    requires { 4 ≤ length room.old }
+fn present(t: Tag, hold: bool, number: u8, value: u64, room: &mut [u8; ROOM]) -> Outcome
     ensures { Does hold t (presents number value) room.old room.new result }
 {
-    let v = t.vault;
-    let k = v.keys;
-    let p = rights::passwords::present(k, number, value);
-    let answer = p.answer;
-    let keys = p.keys;
-    settle(hold, answer, with_keys(t, keys), room)
+    let p = rights::passwords::present(t.vault.keys, number, value);
+    settle(hold, p.answer, with_keys(t, p.keys), room)
 }
 
 // "Write password B1h"
-fn write_password(t: Tag, hold: bool, number: u8, value: u64, room: &mut [u8]) -> Said
-    requires { 4 ≤ length room.old }
-    ensures { Does hold t (granted (change_verdict t.vault.keys.session number) (writes (password number value ∷ [])))
-        room.old room.new result }
+fn write_password(t: Tag, number: u8, value: u64) -> Result<Tag, u8>
+    ensures { result ≡ granting (change_verdict t.vault.keys.session number)
+        (with_vault t (with_keys t.vault (with_password t.vault.keys number value))) }
 {
-    let v = t.vault;
-    let k = v.keys;
-    let c = rights::passwords::change(k, number, value);
-    let answer = c.answer;
-    let keys = c.keys;
-    settle(hold, answer, with_keys(t, keys), room)
+    let keys = rights::passwords::change(t.vault.keys, number, value)?;
+    Ok(with_keys(t, keys))
 }
 
 // "write A1h", on a tag whose last end is e
-fn write_register(t: Tag, hold: bool, e: u8, address: u8, value: u8, room: &mut [u8]) -> Said
-    requires { 4 ≤ length room.old }
-    ensures { Does hold t (granted (register_verdict e (view_of t.vault) address value) (writes (register address value ∷ [])))
-        room.old room.new result }
+fn write_register(t: Tag, e: u8, address: u8, value: u8) -> Result<Tag, u8>
+    ensures { result ≡ granting (register_verdict e (view_of t.vault) address value)
+        (with_vault t (with_register t.vault address value)) }
 {
-    let v = t.vault;
-    let w = rights::registers::write_register(e, v, address, value);
-    let answer = w.answer;
-    let vault = w.vault;
-    settle(hold, answer, record::set_vault(t, vault), room)
+    let vault = rights::registers::write_register(e, t.vault, address, value)?;
+    Ok(record::set_vault(t, vault))
 }
 
 // "Read A0h"
-fn read_register(t: Tag, hold: bool, address: u8, room: &mut [u8]) -> Said
-    requires { 4 ≤ length room.old }
+fn read_register(t: Tag, hold: bool, address: u8, room: &mut [u8; ROOM]) -> Outcome
     ensures { Does hold t (register_answer (register_at (view_of t.vault) address)) room.old room.new result }
 {
-    let v = t.vault;
-    let r = rights::registers::read_register(rights::seen(v), address);
-    match r {
-        RegisterRead::Error(code) => settle(hold, Verdict::Error(code), t, room),
-        RegisterRead::Value(value) => Said {
+    match rights::registers::read_register(rights::seen(t.vault), address) {
+        Ok(value) => Outcome {
             length: put_register(value, room),
             tag: t,
         },
+        Err(code) => settle(hold, Err(code), t, room),
     }
 }
 
-// The body of a read, after the flags byte and before the CRC.
-fn put_listing(
-    v: View,
-    memory: &[u8],
-    limit: usize,
-    first: u16,
-    count: u32,
-    status: bool,
-    room: &mut [u8],
-) -> usize
-    requires limit_in_bounds { 4 * limit ≤ length memory.now }
-    requires limit_in_bounds_2 { 5 * limit + 3 ≤ length room.old }
-    ensures { Put (unsealed_of (body (listing v memory.now limit first count status))) room.old room.new result }
+// The blocks that a read names, on a tag of so many.
+fn run_of(e: Entry, fields: &[u8], blocks: usize) -> Run
+    ensures { result ≡ record { limit = limit_of e blocks; first = first_of e fields.now; count = more_of e fields.now + 1 } }
 {
-    let n = blocks::read_blocks(v, memory, limit, first, count, status, &mut room[1..]);
+    Run {
+        limit: table::limit(e, blocks),
+        first: table::first_block(e, fields),
+        count: table::more_blocks(e, fields) as u32 + 1,
+    }
+}
+
+// The body of a read, after the flags byte and before the CRC. The bound of a run's limit is asked for here and by the three below: `blocks`, whose `Run` it
+// is, asks for less.
+fn put_listing(v: View, memory: &[u8], run: Run, status: bool, room: &mut [u8; ROOM]) -> usize
+    requires in_memory { 4 * run.limit ≤ length memory.now }
+    requires in_room { run.limit ≤ 2048 }
+    ensures { Put (unsealed_of (body (listing v memory.now run.limit run.first run.count status))) room.old room.new result }
+{
+    let n = blocks::read_blocks(v, memory, run, status, &mut room[1..]);
     put_success(n, room)
 }
 
-fn put_statuses(v: View, limit: usize, first: u16, count: u32, room: &mut [u8]) -> usize
-    requires { limit + 3 ≤ length room.old }
-    ensures { Put (unsealed_of (body (statuses v limit first count))) room.old room.new result }
+// The body of a status, likewise. Two functions, and two below: one for both would take what decides and what writes as closures, each with a
+// contract longer than the two lines that it saves.
+fn put_statuses(v: View, run: Run, room: &mut [u8; ROOM]) -> usize
+    requires { run.limit ≤ 2048 }
+    ensures { Put (unsealed_of (body (statuses v run.limit run.first run.count))) room.old room.new result }
 {
-    let n = blocks::read_statuses(v, limit, first, count, &mut room[1..]);
+    let n = blocks::read_statuses(v, run, &mut room[1..]);
     put_success(n, room)
 }
 
 // "Reads 20h .. 30h .. 23h and 33h"
-fn read(
-    t: Tag,
-    e: Entry,
-    option: bool,
-    hold: bool,
-    fields: &[u8],
-    memory: &[u8],
-    room: &mut [u8],
-) -> Said
-    requires memory_len_bound { length memory.now ≤ 8192 }
-    requires in_bounds { 10243 ≤ length room.old }
-    ensures { GivesUnsealed (concluded hold (perform t memory.now (read_of (view_of t.vault)
-        (limit_of e (blocks_of memory.now)) (first_of e fields.now) (more_of e fields.now + 1) option)))
+fn read(t: Tag, run: Run, option: bool, hold: bool, memory: &[u8], room: &mut [u8; ROOM]) -> Outcome
+    requires in_memory { 4 * run.limit ≤ length memory.now }
+    requires in_room { run.limit ≤ 2048 }
+    ensures { GivesUnsealed (concluded hold (perform t memory.now (read_of (view_of t.vault) run.limit run.first run.count option)))
         room.old memory.now room.new result }
 {
-    let v = t.vault;
-    let view = rights::seen(v);
-    let limit = table::limit(e, memory.len() / 4);
-    let first = table::first_block(e, fields);
-    let count = table::more_blocks(e, fields) as u32 + 1;
-    let verdict = blocks::read_verdict(view, limit, first);
-    match verdict {
-        Verdict::Success => Said {
-            length: put_listing(view, memory, limit, first, count, option, room),
+    let view = rights::seen(t.vault);
+    match blocks::read_verdict(view, run.limit, run.first) {
+        Ok(()) => Outcome {
+            length: put_listing(view, memory, run, option, room),
             tag: t,
         },
-        Verdict::Error(_) => settle(hold, verdict, t, room),
+        Err(code) => settle(hold, Err(code), t, room),
     }
 }
 
 // "2Ch and 3Ch .. give status bytes alone"
-fn status(t: Tag, e: Entry, hold: bool, fields: &[u8], blocks: usize, room: &mut [u8]) -> Said
-    requires blocks_bound { blocks ≤ 2048 }
-    requires in_bounds { 10243 ≤ length room.old }
-    ensures { Does hold t (status_of (view_of t.vault) (limit_of e blocks) (first_of e fields.now)
-        (more_of e fields.now + 1)) room.old room.new result }
+fn status(t: Tag, run: Run, hold: bool, room: &mut [u8; ROOM]) -> Outcome
+    requires { run.limit ≤ 2048 }
+    ensures { Does hold t (status_of (view_of t.vault) run.limit run.first run.count) room.old room.new result }
 {
-    let v = t.vault;
-    let view = rights::seen(v);
-    let limit = table::limit(e, blocks);
-    let first = table::first_block(e, fields);
-    let count = table::more_blocks(e, fields) as u32 + 1;
-    let verdict = blocks::status_verdict(limit, first);
-    match verdict {
-        Verdict::Success => Said {
-            length: put_statuses(view, limit, first, count, room),
+    match blocks::status_verdict(run.limit, run.first) {
+        Ok(()) => Outcome {
+            length: put_statuses(rights::seen(t.vault), run, room),
             tag: t,
         },
-        Verdict::Error(_) => settle(hold, verdict, t, room),
+        Err(code) => settle(hold, Err(code), t, room),
     }
 }
 
-// Whether a verdict is success.
-fn is_granted(v: Verdict) -> bool
-    ensures { result ≡ after_verdict v false true }
+// "Writes 21h, 31h .. 24h, 34h": "All or none is written." The tag stays as it is, so no copy of it is given back.
+fn write(t: Tag, e: Entry, fields: &[u8], memory: &mut [u8]) -> Verdict
+    requires { head_of e + 4 * (more_of e fields.now + 1) ≤ length fields.now }
+    ensures verdict { result ≡ verdict_on t e fields.now memory.old }
+    ensures written { memory.new ≡ after_verdict (verdict_on t e fields.now memory.old) memory.old
+        (apply_to_memory (block_units (first_of e fields.now) (more_of e fields.now + 1) (data_of e fields.now)) memory.old) }
 {
-    match v {
-        Verdict::Success => true,
-        Verdict::Error(_) => false,
-    }
-}
-
-// "Writes 21h, 31h .. 24h, 34h": "All or none is written."
-fn write(t: Tag, e: Entry, hold: bool, fields: &[u8], memory: &mut [u8], room: &mut [u8]) -> Said
-    requires fields_in_bounds { head_of e + 4 * (more_of e fields.now + 1) ≤ length fields.now }
-    requires in_bounds { 4 ≤ length room.old }
-    ensures { GivesUnsealed (concluded hold (perform t memory.old (write_of (view_of t.vault)
-        (limit_of e (blocks_of memory.old)) (first_of e fields.now) (more_of e fields.now)
-        (data_of e fields.now)))) room.old memory.new room.new result }
-{
-    let v = t.vault;
     let limit = table::limit(e, memory.len() / 4);
     let first = table::first_block(e, fields);
     let more = table::more_blocks(e, fields);
-    let verdict = blocks::write_verdict(rights::seen(v), limit, first, more);
-    if !is_granted(verdict) {
-        return settle(hold, verdict, t, room);
-    }
+    blocks::write_verdict(rights::seen(t.vault), limit, first, more)?;
     let start = table::head(e);
     blocks::write_blocks(memory, first, more, &fields[start..]);
-    settle(hold, verdict, t, room)
+    Ok(())
 }
 
 // "Option_flag on a write-like command .. holds the answer"
 fn holds(e: Entry, option: bool) -> bool
     ensures { result ≡ (option && is_holding e.option) }
 {
-    if !option {
-        return false;
-    }
-    let rule = e.option;
-    match rule {
-        OptionRule::Refused => false,
-        OptionRule::Taken => false,
-        OptionRule::Holds => true,
+    match e.option {
+        OptionRule::Refused | OptionRule::Taken => false,
+        OptionRule::Holds => option,
     }
 }
 
-// E, of a tag of so many blocks
+// E, of a tag of so many blocks; a host goes by the bytes of the memory, and by sizes alone
 fn last_end(blocks: usize) -> u8
     requires { (8 ≤ blocks) × (blocks ≤ 2048) }
     ensures { result ≡ last_end blocks }
@@ -284,57 +189,68 @@ fn last_end(blocks: usize) -> u8
 pub fn moved(t: Tag, state: State) -> Tag
     ensures { result ≡ with_front t (with_state t.front state) }
 {
-    let f = t.front;
-    record::set_front(t, record::set_state(f, state))
+    record::set_front(t, record::set_state(t.front, state))
 }
 
 // "Stay Quiet 02h gives Quiet and silence, even with Option_flag."
-fn stay_quiet(t: Tag) -> Said
+fn stay_quiet(t: Tag) -> Outcome
     ensures { result ≡ record { length = 0; tag = with_front t (with_state t.front Quiet) } }
 {
-    Said {
-        length: 0,
-        tag: moved(t, State::Quiet),
-    }
+    silent(moved(t, State::Quiet))
 }
 
-// A request: the decision over the command.
+// A request: the decision over the command, of a row and its fields, as `frame::table` takes them. Each has its arm, so that none is forgotten.
 pub fn execute(
     t: Tag,
     e: Entry,
     option: bool,
     fields: &[u8],
     memory: &mut [u8],
-    room: &mut [u8],
-) -> Said
+    room: &mut [u8; ROOM],
+) -> Outcome
     requires memory_value { is_memory memory.old ≡ true }
-    requires in_bounds { 10243 ≤ length room.old }
     requires data_there { DataThere e fields.now }
     ensures { GivesUnsealed (performed t memory.old (request_of t.front (view_of t.vault) (blocks_of memory.old) e option
         fields.now)) room.old memory.new room.new result }
 {
+    let f = t.front;
+    let blocks = memory.len() / 4;
     let hold = holds(e, option);
     let n = put::byte_at(fields, 0);
-    let command = e.command;
-    match command {
+    match e.command {
         Command::StayQuiet => stay_quiet(t),
-        Command::Read => read(t, e, option, hold, fields, memory, room),
-        Command::Write => write(t, e, hold, fields, memory, room),
-        Command::Lock => lock(t, hold, table::first_block(e, fields), room),
-        Command::Select => settle(hold, Verdict::Success, moved(t, State::Selected), room),
-        Command::ResetToReady => settle(hold, Verdict::Success, moved(t, State::Ready), room),
-        Command::WriteAfi => write_afi(t, hold, n, room),
-        Command::LockAfi => lock_afi(t, hold, room),
-        Command::WriteDsfid => write_dsfid(t, hold, n, room),
-        Command::LockDsfid => lock_dsfid(t, hold, room),
-        Command::Status => status(t, e, hold, fields, memory.len() / 4, room),
+        Command::Read => read(t, run_of(e, fields, blocks), option, hold, memory, room),
+        Command::Status => status(t, run_of(e, fields, blocks), hold, room),
         Command::ReadRegister => read_register(t, hold, n, room),
-        Command::WriteRegister => {
-            let last = last_end(memory.len() / 4);
-            write_register(t, hold, last, n, put::byte_at(fields, 1), room)
-        }
-        Command::WritePassword => write_password(t, hold, n, put::number8(fields, 1), room),
         Command::Present => present(t, hold, n, put::number8(fields, 1), room),
-        Command::Unlisted => settle(hold, Verdict::Error(0x02), t, room),
+        Command::Write => settle(hold, write(t, e, fields, memory), t, room),
+        Command::Lock => conclude(hold, t, lock(t, table::first_block(e, fields)), room),
+        Command::Select => conclude(hold, t, Ok(moved(t, State::Selected)), room),
+        Command::ResetToReady => conclude(hold, t, Ok(moved(t, State::Ready)), room),
+        Command::WriteAfi => {
+            let front = record::set_afi(f, n);
+            conclude(hold, t, unless_locked(t, f.lockafi, 0x12, front), room)
+        }
+        Command::LockAfi => {
+            let front = record::lock_afi(f);
+            conclude(hold, t, unless_locked(t, f.lockafi, 0x11, front), room)
+        }
+        Command::WriteDsfid => {
+            let front = record::set_dsfid(f, n);
+            conclude(hold, t, unless_locked(t, f.lockdsfid, 0x12, front), room)
+        }
+        Command::LockDsfid => {
+            let front = record::lock_dsfid(f);
+            conclude(hold, t, unless_locked(t, f.lockdsfid, 0x11, front), room)
+        }
+        Command::WriteRegister => {
+            let value = put::byte_at(fields, 1);
+            conclude(hold, t, write_register(t, last_end(blocks), n, value), room)
+        }
+        Command::WritePassword => {
+            let value = put::number8(fields, 1);
+            conclude(hold, t, write_password(t, n, value), room)
+        }
+        Command::Unlisted => conclude(hold, t, Err(0x02), room),
     }
 }

@@ -14,46 +14,38 @@ ghost use Rattle.tag.specs.Step.{dropped, event_of, frame_of, performed, step};
 ghost use Rattle.tag.specs.Host.{is_memory};
 ghost use Rattle.step.specs.Gives.{Gives, GivesUnsealed};
 
-use answers::{seal, settle};
+use answers::{seal, settle, silent};
 use commands::{execute, moved};
-use record::{Held, Kind, Round, State, Tag};
-use rights::Verdict;
+use record::{Front, Kind, Outcome, State, Tag};
 use rounds::{end_frame, take_inventory};
 use tag::Heard;
 
-// The length of the answer, 0 for silence, and the record after it. `step` alone gives it with the CRC: in what it calls the answer has none yet.
-#[derive(Clone, Copy)]
-pub struct Said {
-    pub length: usize,
-    pub tag: Tag,
-}
+// "answer room is below 10,243 bytes": no answer is longer. The room by its type, so that no function here has to ask for its length.
+pub const ROOM: usize = 10243;
 
 // "In the field, any frame first drops a round and a held answer."
 fn drop_round(t: Tag) -> Tag
     ensures { result ≡ with_front t (dropped t.front) }
 {
-    let f = t.front;
-    let front = record::set_held(record::set_round(f, Round::None), Held::None);
+    let front = Front {
+        round: None,
+        held: None,
+        ..t.front
+    };
     record::set_front(t, front)
 }
 
 // A frame in the field, of a tag with neither round nor held answer.
-fn take_frame(t: Tag, frame: &[u8], memory: &mut [u8], room: &mut [u8]) -> Said
+fn take_frame(t: Tag, frame: &[u8], memory: &mut [u8], room: &mut [u8; ROOM]) -> Outcome
     requires memory_value { is_memory memory.old ≡ true }
-    requires in_bounds { 10243 ≤ length room.old }
     ensures { GivesUnsealed (performed t memory.old (frame_of t.front (view_of t.vault) (blocks_of memory.old)
         frame.now)) room.old memory.new room.new result }
 {
-    let f = t.front;
-    let heard = frame::hear(f, frame);
-    match heard {
-        Heard::Silence => Said { length: 0, tag: t },
-        Heard::Deselected => Said {
-            length: 0,
-            tag: moved(t, State::Ready),
-        },
+    match frame::hear(t.front, frame) {
+        Heard::Silence => silent(t),
+        Heard::Deselected => silent(moved(t, State::Ready)),
         Heard::Inventory => take_inventory(t, frame, room),
-        Heard::Error(code) => settle(false, Verdict::Error(code), t, room),
+        Heard::Error(code) => settle(false, Err(code), t, room),
         Heard::Request {
             entry,
             option,
@@ -69,57 +61,40 @@ fn take_frame(t: Tag, frame: &[u8], memory: &mut [u8], room: &mut [u8]) -> Said
 fn field_on(t: Tag) -> Tag
     ensures { result ≡ (if t.front.field then t else record { front = passing_cleared t.front true; vault = sessionless t.vault }) }
 {
-    let f = t.front;
-    if f.field {
+    if t.front.field {
         return t;
     }
     record::power(t, true)
 }
 
-// An event, with its answer before the CRC.
-fn take_event(t: Tag, kind: Kind, frame: &[u8], memory: &mut [u8], room: &mut [u8]) -> Said
+// An event, with its answer before the CRC. `step` alone gives the length with the CRC: in what it calls the answer has none yet. That the
+// memory is of a size stands as a `requires` on the way from here to a read, since C lends it as a slice: a type for it would have to be opened
+// again for each block that is read or written.
+fn take_event(t: Tag, kind: Kind, frame: &[u8], memory: &mut [u8], room: &mut [u8; ROOM]) -> Outcome
     requires memory_value { is_memory memory.old ≡ true }
-    requires in_bounds { 10243 ≤ length room.old }
     ensures { GivesUnsealed (step t memory.old (event_of kind frame.now)) room.old
         memory.new room.new result }
 {
-    let f = t.front;
     match kind {
-        Kind::FieldOn => Said {
-            length: 0,
-            tag: field_on(t),
-        },
-        Kind::FieldOff => Said {
-            length: 0,
-            tag: record::power(t, false),
-        },
-        Kind::EndOfFrame => {
-            if f.field {
-                return end_frame(t, room);
-            }
-            Said { length: 0, tag: t }
-        }
-        Kind::Request => {
-            if f.field {
-                return take_frame(drop_round(t), frame, memory, room);
-            }
-            Said { length: 0, tag: t }
-        }
+        Kind::FieldOn => silent(field_on(t)),
+        Kind::FieldOff => silent(record::power(t, false)),
+        Kind::EndOfFrame if t.front.field => end_frame(t, room),
+        Kind::Request if t.front.field => take_frame(drop_round(t), frame, memory, room),
+        Kind::EndOfFrame | Kind::Request => silent(t),
     }
 }
 
 // One event. "CRC follows.": it is put to every answer here.
-pub fn step(t: Tag, kind: Kind, frame: &[u8], memory: &mut [u8], room: &mut [u8]) -> Said
+pub fn step(t: Tag, kind: Kind, frame: &[u8], memory: &mut [u8], room: &mut [u8]) -> Outcome
     requires memory_value { is_memory memory.old ≡ true }
     requires in_bounds { 10243 ≤ length room.old }
     ensures { Gives (step t memory.old (event_of kind frame.now)) room.old
         memory.new room.new result }
 {
+    let room = room.first_chunk_mut::<ROOM>().unwrap();
     let s = take_event(t, kind, frame, memory, room);
-    let n = s.length;
-    let tag = s.tag;
-    Said {
-        length: seal(n, room),
-        tag,
+    Outcome {
+        length: seal(s.length, room),
+        ..s
     }
 }

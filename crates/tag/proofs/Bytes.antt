@@ -8,21 +8,20 @@ use mathlib.Core.List.{List, [], ◌∷◌, map}
 use native.Mathlib.Omega.{arith}
 use lib.ListN.{length, get_or}
 use lib.Dec.{ltb, eqb}
+use Rattle.std.specs.Prelude.{Some, None, Ok, Err}
 use Rattle.put.specs.Number.{number_at, bytes_of}
 use Rattle.put.proofs.Bytes.{Bytes, none, more, below_append, below_take, below_drop, below_replicate, byte_at, number_below, bytes_of_lem}
 use Rattle.crc.proofs.Bytes.{crc_bytes_lem}
 use Rattle.rights.specs.declared.View.{View}
-use Rattle.rights.specs.declared.Verdict.TheVariants.{Success, Error}
 use Rattle.rights.specs.Vault.{view_of}
 use Rattle.rights.specs.Registers.{registers_of}
 use Rattle.rights.proofs.Cases.{if_one}
 use Rattle.rights.proofs.Ranges.{status_byte, at_most_one, read_bytes}
+use Rattle.record.specs.Update.{running}
 use Rattle.record.specs.declared.Front.{Front}
 use Rattle.record.specs.declared.Tag.{Tag}
 use Rattle.tag.specs.declared.Command.{Command}
 use Rattle.record.specs.declared.State.TheVariants.{Ready}
-use Rattle.record.specs.declared.Round.TheVariants as round
-use Rattle.record.specs.declared.Held.TheVariants as held
 use Rattle.tag.specs.Rules.{blocks_of, held_rule}
 use Rattle.tag.specs.Table.{entry_of, head_of}
 use Rattle.tag.specs.Frame.{code_of, fields_at, fields_from, end_of}
@@ -91,7 +90,7 @@ slot_ranged {t} slot mask r =
     if_one (λ (a : Answer). RangedAct (says a)) (eqb (slot_of t mask) slot) (λ e. says_in (inventory_bytes r)) (λ e. says_in none)
 
 dropped_ranged : {t : Front} → RangedFront t → RangedFront (dropped t)
-dropped_ranged r = held_ranged (round_ranged r round.None none) held.None none
+dropped_ranged r = held_ranged (round_ranged r None none) None none
 
 next_bytes : (slot mask : ℕ) → slot < 15 → Bytes (slot ∷ mask ∷ []) → Bytes ((slot + 1) ∷ mask ∷ [])
 next_bytes slot mask k (more h m) = let next : slot + 1 < 256 = omega arith in more next m
@@ -107,18 +106,18 @@ field_ranged : {t : Front} {v : View} {blocks : ℕ} {e : Event} {w : Work}
     → RangedFront t → Bytes (registers_of v.areas) → Bytes (sent e) → InField t v blocks e w → RangedWork w
 unfolding request_of held_rule
 field_ranged r g p shape.unmoved = record { front = r; act = says_in none }
-field_ranged r g p (shape.given d h) = record { front = held_ranged r held.None none; act = says_in (rw h at r.held) }
+field_ranged r g p (shape.given d h) = record { front = held_ranged r None none; act = says_in (rw h at r.held) }
 field_ranged r g p (shape.moved slot mask h k) =
     let next = next_bytes slot mask k (rw h at r.round) in
-    record { front = round_ranged r (round.Open (slot + 1) mask) next; act = slot_ranged (slot + 1) mask r }
-field_ranged r g p shape.closed = record { front = round_ranged r round.None none; act = says_in none }
+    record { front = round_ranged r (running (slot + 1) mask) next; act = slot_ranged (slot + 1) mask r }
+field_ranged r g p shape.closed = record { front = round_ranged r None none; act = says_in none }
 field_ranged r g p shape.ignored = record { front = dropped_ranged r; act = says_in none }
 field_ranged r g p shape.deselected = record { front = state_ranged (dropped_ranged r) Ready; act = says_in none }
-field_ranged r g p (shape.refused c h) = record { front = dropped_ranged r; act = says_in (verdict_bytes (Error c) h) }
+field_ranged r g p (shape.refused c h) = record { front = dropped_ranged r; act = says_in (verdict_bytes (Err c) h) }
 field_ranged r g p shape.found = record { front = dropped_ranged r; act = says_in (inventory_bytes (dropped_ranged r)) }
 field_ranged r g p (shape.opened {f} u o) =
     let first = more zero_byte (more (byte_at (mask_at f) (fields_bytes 2 p)) none) in
-    record { front = round_ranged (dropped_ranged r) (round.Open 0 (mask_length f)) first; act = slot_ranged 0 (mask_length f) (dropped_ranged r) }
+    record { front = round_ranged (dropped_ranged r) (running 0 (mask_length f)) first; act = slot_ranged 0 (mask_length f) (dropped_ranged r) }
 field_ranged r g p (shape.done {f} h a) =
     let front = front_by RangedFront (dropped_ranged r) (state_ranged (dropped_ranged r)) (entry_of (code_of f)).command in
     record { front = front; act = act_ranged g (fields_bytes (fields_at f) p) a }
@@ -136,8 +135,8 @@ sealed_bytes {s} p = below_append p (crc_bytes_lem s)
 
 line_bytes : (a : Answer) → Bytes (carried a) → Bytes (line_of a)
 line_bytes silence p = none
-line_bytes (verdict Success) p = sealed_bytes (more zero_byte p)
-line_bytes (verdict (Error c)) p = sealed_bytes (more one_byte p)
+line_bytes (verdict (Ok tt)) p = sealed_bytes (more zero_byte p)
+line_bytes (verdict (Err c)) p = sealed_bytes (more one_byte p)
 line_bytes (body b) p = sealed_bytes (more zero_byte p)
 
 pub record RangedStepped (s : Stepped) : Type 0 where
@@ -148,7 +147,7 @@ pub record RangedStepped (s : Stepped) : Type 0 where
 settled_ranged : (hold : Bool) (a : Answer) {t : Tag} {m : List ℕ} → Bytes (carried a) → Ranged t → Bytes m → RangedStepped (settled hold a t m)
 settled_ranged true silence p r q = record { answer = none; tag = r; memory = q }
 settled_ranged true (verdict v) p r q =
-    record { answer = none; tag = record { front = held_ranged r.front (held.Answer v) p; vault = r.vault }; memory = q }
+    record { answer = none; tag = record { front = held_ranged r.front (Some v) p; vault = r.vault }; memory = q }
 settled_ranged true (body b) p r q = record { answer = line_bytes (body b) p; tag = r; memory = q }
 settled_ranged false a p r q = record { answer = line_bytes a p; tag = r; memory = q }
 

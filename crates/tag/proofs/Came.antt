@@ -8,12 +8,10 @@ use mathlib.Core.List.{List, [], ◌∷◌}
 use lib.ListN.{get_or}
 use lib.Dec.{ltb, eqb}
 use borrow.Author.Tests.{ltb-true}
+use Rattle.std.specs.Prelude.{Option, Some, None, Result, Ok, Err}
 use Rattle.put.specs.Number.{number_at}
 use Rattle.rights.specs.declared.View.{View}
-use Rattle.rights.specs.declared.Verdict.{Verdict}
-use Rattle.rights.specs.declared.Verdict.TheVariants.{Success, Error}
-use Rattle.rights.specs.declared.registers.RegisterRead.{RegisterRead}
-use Rattle.rights.specs.declared.registers.RegisterRead.TheVariants as read
+use Rattle.rights.specs.Verdict.{Verdict}
 use Rattle.rights.specs.Passwords.{is_open, change_verdict}
 use Rattle.rights.specs.Blocks.{any_barred}
 use Rattle.rights.specs.Registers.{register_at, register_verdict}
@@ -24,10 +22,7 @@ use Rattle.record.specs.declared.Front.{Front}
 use Rattle.record.specs.declared.State.{State}
 use Rattle.record.specs.declared.State.TheVariants.{Ready, Quiet, Selected}
 use Rattle.record.specs.declared.Round.{Round}
-use Rattle.record.specs.declared.Round.TheVariants as round
-use Rattle.record.specs.declared.Held.{Held}
-use Rattle.record.specs.declared.Held.TheVariants as held
-use Rattle.record.specs.Update.{with_state, with_round, with_held, passing_cleared}
+use Rattle.record.specs.Update.{with_state, with_round, with_held, passing_cleared, running}
 use Rattle.tag.specs.declared.Command.{Command}
 use Rattle.tag.specs.declared.Command.TheVariants.{StayQuiet, Read, Write, Lock, Select, ResetToReady, WriteAfi, LockAfi, WriteDsfid, LockDsfid, Status, ReadRegister, WriteRegister, WritePassword, Present, Unlisted}
 use Rattle.tag.specs.declared.Entry.{Entry}
@@ -76,7 +71,7 @@ pub data Asked (v : View) (blocks : ℕ) (fields : List ℕ) : Command → Act �
   told : {c : Command} (d : Verdict) → Coded d → Asked v blocks fields c (says (verdict d))
   -- each of one command alone
   quiet : Asked v blocks fields StayQuiet (says silence)
-  shows : (address x : ℕ) → register_at v address ≡ read.Value x → Asked v blocks fields ReadRegister (says (body (x ∷ [])))
+  shows : (address x : ℕ) → register_at v address ≡ Ok x → Asked v blocks fields ReadRegister (says (body (x ∷ [])))
   listed : (limit first count : ℕ) (status : Bool) → limit ≤ blocks → Asked v blocks fields Read (lists limit first count status)
   states : (limit first count : ℕ) → limit ≤ blocks → Asked v blocks fields Status (says (body (statuses v limit first count)))
   presented : Asked v blocks fields Present (presents (get_or fields 0 0) (number_at 8 fields 1))
@@ -88,7 +83,7 @@ pub data Asked (v : View) (blocks : ℕ) (fields : List ℕ) : Command → Act �
   afi_locked : {c : Command} → Asked v blocks fields c (writes (afi_lock ∷ []))
   dsfid_written : {c : Command} → Asked v blocks fields c (writes (dsfid (get_or fields 0 0) ∷ []))
   dsfid_locked : {c : Command} → Asked v blocks fields c (writes (dsfid_lock ∷ []))
-  register_written : {c : Command} (address : ℕ) → register_verdict (last_end blocks) v address (get_or fields 1 0) ≡ Success
+  register_written : {c : Command} (address : ℕ) → register_verdict (last_end blocks) v address (get_or fields 1 0) ≡ Ok tt
       → Asked v blocks fields c (writes (register address (get_or fields 1 0) ∷ []))
   password_written : {c : Command} (n : ℕ) → is_open v.session n ≡ true → Asked v blocks fields c (writes (password n (number_at 8 fields 1) ∷ []))
 
@@ -109,14 +104,14 @@ module _ (t : Front) (v : View) (blocks : ℕ) (e : Entry) (option : Bool) (fiel
   byte = get_or fields 0 0
 
   -- what is refused says its code, and what is granted is done
-  by_verdict : {c : Command} (d : Verdict) (a : Act) → Coded d → (d ≡ Success → Is c a) → Is c (granted d a)
-  by_verdict Success a h k = k refl
-  by_verdict (Error x) a h k = told (Error x) h
+  by_verdict : {c : Command} (d : Verdict) (a : Act) → Coded d → (d ≡ Ok tt → Is c a) → Is c (granted d a)
+  by_verdict (Ok tt) a h k = k refl
+  by_verdict (Err x) a h k = told (Err x) h
 
-  register_shown : (address : ℕ) (r : RegisterRead) → register_at v address ≡ r → Is ReadRegister (register_answer r)
+  register_shown : (address : ℕ) (r : Result ℕ ℕ) → register_at v address ≡ r → Is ReadRegister (register_answer r)
   unfolding held_rule is_code
-  register_shown address (read.Error c) h = told (Error c) (rw (read_error v address c h))
-  register_shown address (read.Value x) h = shows address x h
+  register_shown address (Err c) h = told (Err c) (rw (read_error v address c h))
+  register_shown address (Ok x) h = shows address x h
 
   pub asked : (c : Command) → Asked v blocks fields c (act_of c t v blocks e option fields)
   unfolding act_of held_rule is_code
@@ -126,8 +121,8 @@ module _ (t : Front) (v : View) (blocks : ℕ) (e : Entry) (option : Bool) (fiel
       by_verdict (write_verdict v limit first more) _ (write_coded v limit first more)
       (λ h. blocks_written e first (more + 1) (write_granted v limit first more h).unbarred)
   asked Lock = by_verdict (lock_verdict v first) _ (lock_coded v first) (λ h. block_locked (eqb first 1))
-  asked Select = told Success refl
-  asked ResetToReady = told Success refl
+  asked Select = told (Ok tt) refl
+  asked ResetToReady = told (Ok tt) refl
   asked WriteAfi = by_verdict (unless t.lockafi 0x12) _ (unless_coded t.lockafi 0x12 refl) (λ h. afi_written)
   asked LockAfi = by_verdict (unless t.lockafi 0x11) _ (unless_coded t.lockafi 0x11 refl) (λ h. afi_locked)
   asked WriteDsfid = by_verdict (unless t.lockdsfid 0x12) _ (unless_coded t.lockdsfid 0x12 refl) (λ h. dsfid_written)
@@ -141,7 +136,7 @@ module _ (t : Front) (v : View) (blocks : ℕ) (e : Entry) (option : Bool) (fiel
       by_verdict (change_verdict v.session byte) _ (change_coded v.session byte)
       (λ h. password_written byte (change_open v.session byte h).1)
   asked Present = presented
-  asked Unlisted = told (Error 0x02) refl
+  asked Unlisted = told (Err 0x02) refl
 
 -- the front after a command: as it was, or in another state
 pub front_by : (P : Front → Type 0) {f : Front} → P f → ((s : State) → P (with_state f s)) → (c : Command) → P (front_after c f)
@@ -166,17 +161,17 @@ front_by P p q Unlisted = p
 
 pub data InField (t : Front) (v : View) (blocks : ℕ) : Event → Work → Type 0 where
   unmoved : InField t v blocks end_of_frame (work t (says silence))
-  given : (d : Verdict) → t.held ≡ held.Answer d → InField t v blocks end_of_frame (work (with_held t held.None) (says (verdict d)))
-  moved : (slot mask : ℕ) → t.round ≡ round.Open slot mask → slot < 15
-      → InField t v blocks end_of_frame (work (with_round t (round.Open (slot + 1) mask)) (says (in_slot t (slot + 1) mask)))
-  closed : InField t v blocks end_of_frame (work (with_round t round.None) (says silence))
+  given : (d : Verdict) → t.held ≡ Some d → InField t v blocks end_of_frame (work (with_held t None) (says (verdict d)))
+  moved : (slot mask : ℕ) → t.round ≡ running slot mask → slot < 15
+      → InField t v blocks end_of_frame (work (with_round t (running (slot + 1) mask)) (says (in_slot t (slot + 1) mask)))
+  closed : InField t v blocks end_of_frame (work (with_round t None) (says silence))
   ignored : {f : List ℕ} → InField t v blocks (request f) (work (dropped t) (says silence))
   deselected : {f : List ℕ} → InField t v blocks (request f) (work (with_state (dropped t) Ready) (says silence))
   refused : {f : List ℕ} (c : ℕ) → is_code c ≡ true → InField t v blocks (request f) (work (dropped t) (says (error c)))
   found : {f : List ℕ} → InField t v blocks (request f) (work (dropped t) (says (inventory_answer (dropped t))))
   opened : {f : List ℕ} → unheard (dropped t) f ≡ false → one_slot f ≡ false
       → InField t v blocks (request f)
-      (work (with_round (dropped t) (round.Open 0 (mask_length f))) (says (in_slot (dropped t) 0 (mask_length f))))
+      (work (with_round (dropped t) (running 0 (mask_length f))) (says (in_slot (dropped t) 0 (mask_length f))))
   done : {f : List ℕ} → Passes (dropped t) f
       → Asked v blocks (fields_from (fields_at f) f) (entry_of (code_of f)).command
       (act_of (entry_of (code_of f)).command (dropped t) v blocks (entry_of (code_of f)) (option_flag f) (fields_from (fields_at f) f))
@@ -198,15 +193,15 @@ module _ (t : Front) (v : View) (blocks : ℕ) where
   frame_came f (wrong c h) = refused c h
   frame_came f (passes p) = done p (asked (dropped t) v blocks (entry_of (code_of f)) (option_flag f) _ (entry_of (code_of f)).command)
 
-  round_came : (r : Round) → t.round ≡ r → InField t v blocks end_of_frame (round_ends r t)
+  round_came : (r : Option Round) → t.round ≡ r → InField t v blocks end_of_frame (round_ends r t)
   unfolding next_slot
-  round_came round.None h = unmoved
-  round_came (round.Open slot mask) h =
-      if_one (InField t v blocks end_of_frame) (ltb slot 15) (λ e. moved slot mask h (ltb-true slot 15 e)) (λ e. closed)
+  round_came None h = unmoved
+  round_came (Some o) h =
+      if_one (InField t v blocks end_of_frame) (ltb o.slot 15) (λ e. moved o.slot o.mask h (ltb-true o.slot 15 e)) (λ e. closed)
 
-  end_came : (h : Held) → t.held ≡ h → InField t v blocks end_of_frame (frame_ends h t)
-  end_came held.None h = round_came t.round refl
-  end_came (held.Answer d) h = given d h
+  end_came : (h : Option Verdict) → t.held ≡ h → InField t v blocks end_of_frame (frame_ends h t)
+  end_came None h = round_came t.round refl
+  end_came (Some d) h = given d h
 
   pub came : (e : Event) → Came t v blocks e (work_of t v blocks e)
   unfolding work_of frame_of

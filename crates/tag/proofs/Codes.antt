@@ -5,8 +5,9 @@ use mathlib.Core.Path.{◌≡◌, refl}
 use mathlib.Core.Bool.{Bool, true, false, not}
 use Prim.Native.Nat.{ℕ, ◌+◌}
 use lib.Dec.{leb, ltb, eqb}
+use Rattle.std.specs.Prelude.{Option, Some}
 use Rattle.rights.specs.declared.View.{View}
-use Rattle.rights.specs.declared.Verdict.{Verdict}
+use Rattle.rights.specs.Verdict.{Verdict}
 use Rattle.rights.specs.declared.Keys.{Keys}
 use Rattle.rights.specs.declared.Session.{Session}
 use Rattle.rights.specs.declared.passwords.Presentation.{Presentation}
@@ -14,13 +15,12 @@ use Rattle.rights.specs.Passwords.{is_open, password_of, present_of, change_verd
 use Rattle.rights.specs.Blocks.{readable_at, writable_at, locked_at, crosses_at, any_barred}
 use Rattle.rights.specs.Registers.{is_register, allows, permits, register_verdict}
 use Rattle.rights.proofs.Cases.{if_one}
-use Rattle.record.specs.declared.Held.TheVariants as held
 use Rattle.tag.specs.Rules.{is_code, held_rule}
 use Rattle.tag.specs.Blocks.{read_verdict, status_verdict, write_verdict, lock_verdict}
 use Rattle.tag.specs.Commands.{unless}
 
 abbrev pub Coded : Verdict → Type 0
-Coded v = held_rule (held.Answer v) ≡ true
+Coded v = held_rule (Some v) ≡ true
 
 pub read_coded : (v : View) (limit first : ℕ) → Coded (read_verdict v limit first)
 unfolding held_rule is_code read_verdict
@@ -60,7 +60,7 @@ present_coded k n w =
     if_one P (ltb 3 n) (λ e. refl) (λ e.
     if_one P (not (eqb (password_of k n) w)) (λ e. refl) (λ e. refl))
 
-pub change_coded : (s : Session) (n : ℕ) → Coded (change_verdict s n)
+pub change_coded : (s : Option Session) (n : ℕ) → Coded (change_verdict s n)
 unfolding held_rule is_code change_verdict
 change_coded s n =
     if_one Coded (ltb 3 n) (λ e. refl) (λ e.

@@ -5,11 +5,10 @@ use mathlib.Core.Path.{◌≡◌, refl, ap}
 use mathlib.Core.Logic.{◌≢◌, ◌⊎◌, inl, inr}
 use mathlib.Core.Bool.{Bool, true, false, not, ◌&&◌}
 use mathlib.Core.List.{List, [], ◌∷◌}
-use mathlib.Core.Option.{Option, none, some}
 use native.Mathlib.Omega.{arith}
 use lib.Dec.{eqb}
 use borrow.Author.Tests.{eqb-true, eq-eqb, ne_eqb}
-use Rattle.std.specs.Prelude.{if◌then◌else◌}
+use Rattle.std.specs.Prelude.{if◌then◌else◌, Option, Some, None}
 use Rattle.rights.specs.declared.View.{View}
 use Rattle.rights.specs.Vault.{view_of}
 use Rattle.rights.specs.Passwords.{password_of}
@@ -98,8 +97,8 @@ module _ (p : ℕ) (some_p : p ≢ 0) where
     opening x = opens (only p) t.vault.keys x
 
     opens_is : (x : Option Claim) → presented t m e ≡ x → opening x ≡ true → Opens p t e
-    opens_is none h o = let z : ◌≡◌ {A = ℕ} 0 1 = cc in absurd (omega arith)
-    opens_is (some c) h o =
+    opens_is None h o = let z : ◌≡◌ {A = ℕ} 0 1 = cc in absurd (omega arith)
+    opens_is (Some c) h o =
         let b = both (guards (only p) c.number) _ o in
         record { claim = c; by = (presented_means t m e c).0 h; number = guards_is c.number b.0; value = eqb-true _ _ b.1 }
 
@@ -151,7 +150,7 @@ module _ (p : ℕ) (some_p : p ≢ 0) where
     opens_in : {cs : List Call} → calling ≡ true → OpenedIn p t m (c ∷ cs)
     opens_in {cs} h = go (eqb number 0) refl h
       where
-        go : (b : Bool) → eqb number 0 ≡ b → opening t m c.event (if b then presented t m c.event else none) ≡ true → OpenedIn p t m (c ∷ cs)
+        go : (b : Bool) → eqb number 0 ≡ b → opening t m c.event (if b then presented t m c.event else None) ≡ true → OpenedIn p t m (c ∷ cs)
         go true e h = now_in (eqb-true _ _ e) (opens_is t m c.event (presented t m c.event) refl h)
         go false e h = let z : ◌≡◌ {A = ℕ} 0 1 = cc in absurd (omega arith)
 

@@ -15,8 +15,7 @@ use Rattle.put.proofs.RoundTrips.{number_after}
 use Rattle.rights.proofs.Cases.{and_true, and_false, if_one, both}
 use Rattle.record.specs.declared.Front.{Front}
 use Rattle.record.specs.declared.Tag.{Tag}
-use Rattle.record.specs.declared.Round.TheVariants as round
-use Rattle.record.specs.Update.{with_round}
+use Rattle.record.specs.Update.{with_round, running}
 use Rattle.record.specs.Tests.{is_quiet}
 use Rattle.tag.specs.declared.Heard.TheVariants as heard
 use Rattle.tag.specs.Frame.{bit, heard_of}
@@ -130,7 +129,7 @@ said false t bits = in_slot t 0 bits
 
 abbrev pub left : Bool → Front → ℕ → Front
 left true t bits = t
-left false t bits = with_round t (round.Open 0 bits)
+left false t bits = with_round t (running 0 bits)
 
 module _ {one : Bool} {flags : ℕ} (p : Flags one flags) (asked bits : ℕ) (mask : List ℕ) where
   abbrev f : List ℕ

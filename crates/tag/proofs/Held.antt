@@ -6,12 +6,11 @@ use mathlib.Core.Path.{◌≡◌, refl}
 use mathlib.Core.Bool.{Bool, true, false}
 use mathlib.Core.List.{List, []}
 use native.Mathlib.Omega.{arith}
+use Rattle.std.specs.Prelude.{Some, Ok}
 use Rattle.rights.specs.declared.View.{View}
-use Rattle.rights.specs.declared.Verdict.{Verdict}
-use Rattle.rights.specs.declared.Verdict.TheVariants.{Success}
+use Rattle.rights.specs.Verdict.{Verdict}
 use Rattle.rights.specs.Vault.{view_of}
 use Rattle.record.specs.declared.Tag.{Tag}
-use Rattle.record.specs.declared.Held.TheVariants as held
 use Rattle.record.specs.Update.{with_front}
 use Rattle.tag.specs.declared.Command.{Command}
 use Rattle.tag.specs.declared.Command.TheVariants.{StayQuiet, Read, Write, Lock, Select, ResetToReady, WriteAfi, LockAfi, WriteDsfid, LockDsfid, Status, ReadRegister, WriteRegister, WritePassword, Present, Unlisted}
@@ -62,14 +61,14 @@ judged t m h (shape.shows address x k) = let z : ◌≡◌ {A = ℕ} 0 1 = cc in
 judged t m h (shape.listed limit first count status k) = let z : ◌≡◌ {A = ℕ} 0 1 = cc in absurd (omega arith)
 judged t m h (shape.states limit first count k) = let z : ◌≡◌ {A = ℕ} 0 1 = cc in absurd (omega arith)
 judged t m h shape.presented = let z : ◌≡◌ {A = ℕ} 0 1 = cc in absurd (omega arith)
-judged t m h (shape.blocks_written e first n k) = record { given = Success; is = refl }
-judged t m h (shape.block_locked b) = record { given = Success; is = refl }
-judged t m h shape.afi_written = record { given = Success; is = refl }
-judged t m h shape.afi_locked = record { given = Success; is = refl }
-judged t m h shape.dsfid_written = record { given = Success; is = refl }
-judged t m h shape.dsfid_locked = record { given = Success; is = refl }
-judged t m h (shape.register_written address k) = record { given = Success; is = refl }
-judged t m h (shape.password_written n k) = record { given = Success; is = refl }
+judged t m h (shape.blocks_written e first n k) = record { given = Ok tt; is = refl }
+judged t m h (shape.block_locked b) = record { given = Ok tt; is = refl }
+judged t m h shape.afi_written = record { given = Ok tt; is = refl }
+judged t m h shape.afi_locked = record { given = Ok tt; is = refl }
+judged t m h shape.dsfid_written = record { given = Ok tt; is = refl }
+judged t m h shape.dsfid_locked = record { given = Ok tt; is = refl }
+judged t m h (shape.register_written address k) = record { given = Ok tt; is = refl }
+judged t m h (shape.password_written n k) = record { given = Ok tt; is = refl }
 
 -- ---- by the table, the answers of these alone are held
 
@@ -92,7 +91,7 @@ module _ (code : ℕ) where
 pub record Withheld (s : Stepped) : Type 0 where
   pub given : Verdict
   pub silent : s.answer ≡ []
-  pub kept : s.tag.front.held ≡ held.Answer given
+  pub kept : s.tag.front.held ≡ Some given
 
 withheld : (t : Tag) (m : List ℕ) (w : Work) → w.hold ≡ true → Judged (with_front t w.front) m w.act → Withheld (performed t m w)
 withheld t m w h j = rw (h, j.is) (record { given = j.given; silent = refl; kept = refl })

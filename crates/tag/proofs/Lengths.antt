@@ -9,12 +9,12 @@ use native.Mathlib.Omega.{arith}
 use lib.ListN.{length, replicate}
 use lib.Dec.{eqb}
 use borrow.Author.Tests.{le-leb}
+use Rattle.std.specs.Prelude.{Ok, Err}
 use Rattle.put.specs.Number.{number_at, bytes_of}
 use Rattle.put.proofs.Numbers.{length_bytes}
 use Rattle.crc.specs.Crc.{crc_bit, crc_bits, crc_byte, crc_from, crc_of, crc_bytes}
 use Rattle.rights.specs.declared.View.{View}
-use Rattle.rights.specs.declared.Verdict.{Verdict}
-use Rattle.rights.specs.declared.Verdict.TheVariants.{Success, Error}
+use Rattle.rights.specs.Verdict.{Verdict}
 use Rattle.rights.specs.Vault.{view_of}
 use Rattle.rights.specs.Passwords.{present_of}
 use Rattle.rights.specs.Blocks.{area_of, may_read, readable_at}
@@ -45,14 +45,14 @@ use Rattle.tag.proofs.Came as shape
 
 abbrev pub carried : Answer → List ℕ
 carried silence = []
-carried (verdict Success) = []
-carried (verdict (Error c)) = c ∷ []
+carried (verdict (Ok tt)) = []
+carried (verdict (Err c)) = c ∷ []
 carried (body b) = b
 
 line_most_lem : (a : Answer) → length (line_of a) ≤ length (carried a) + 3
 line_most_lem silence = omega arith
-line_most_lem (verdict Success) = omega (arith, sealed_length (0x00 ∷ []))
-line_most_lem (verdict (Error c)) = omega (arith, sealed_length (0x01 ∷ c ∷ []))
+line_most_lem (verdict (Ok tt)) = omega (arith, sealed_length (0x00 ∷ []))
+line_most_lem (verdict (Err c)) = omega (arith, sealed_length (0x01 ∷ c ∷ []))
 line_most_lem (body b) = omega (arith, sealed_length (0x00 ∷ b))
 
 settled_most : (hold : Bool) (a : Answer) (t : Tag) (m : List ℕ) → length (settled hold a t m).answer ≤ length (carried a) + 3
@@ -71,8 +71,8 @@ span (writes us) = 0
 span closes = 0
 
 verdict_most : (v : Verdict) → length (carried (verdict v)) ≤ 1
-verdict_most Success = omega arith
-verdict_most (Error c) = omega arith
+verdict_most (Ok tt) = omega arith
+verdict_most (Err c) = omega arith
 
 perform_most : (t : Tag) (m : List ℕ) (a : Act) → length (carried (perform t m a).answer) ≤ span a
 unfolding perform
@@ -190,8 +190,8 @@ pub record Sealed (answer : List ℕ) : Type 0 where
 
 line_sealed : (a : Answer) → (line_of a ≡ []) ⊎ Sealed (line_of a)
 line_sealed silence = inl refl
-line_sealed (verdict Success) = inr (record { rest = 0x00 ∷ []; some = omega arith; is = refl })
-line_sealed (verdict (Error c)) = inr (record { rest = 0x01 ∷ c ∷ []; some = omega arith; is = refl })
+line_sealed (verdict (Ok tt)) = inr (record { rest = 0x00 ∷ []; some = omega arith; is = refl })
+line_sealed (verdict (Err c)) = inr (record { rest = 0x01 ∷ c ∷ []; some = omega arith; is = refl })
 line_sealed (body b) = inr (record { rest = 0x00 ∷ b; some = omega arith; is = refl })
 
 settled_sealed : (hold : Bool) (a : Answer) (t : Tag) (m : List ℕ) → ((settled hold a t m).answer ≡ []) ⊎ Sealed (settled hold a t m).answer

@@ -4,11 +4,10 @@
 use mathlib.Core.Path.{◌≡◌}
 use mathlib.Core.Bool.{true, ◌&&◌}
 use Prim.Native.Nat.{ℕ}
+use Rattle.std.specs.Prelude.{None}
 use Rattle.rights.specs.Registers.{possible}
 use Rattle.rights.proofs.Cases.{both, join}
 use Rattle.record.specs.declared.Tag.{Tag}
-use Rattle.record.specs.declared.Round.TheVariants as round
-use Rattle.record.specs.declared.Held.TheVariants as held
 use Rattle.tag.specs.Rules.{last_end, off_rule, round_rule, held_rule, together_rule, sound}
 
 abbrev pub Live : ℕ → Tag → Type 0
@@ -25,8 +24,8 @@ abbrev pub Clear : ℕ → Tag → Type 0
 Clear e t = record {
   registers : possible e t.vault.areas ≡ true;
   field : t.front.field ≡ true;
-  round : t.front.round ≡ round.None;
-  held : t.front.held ≡ held.None;
+  round : t.front.round ≡ None;
+  held : t.front.held ≡ None;
 }
 
 pub registers_possible : (blocks : ℕ) (t : Tag) → sound blocks t ≡ true → possible (last_end blocks) t.vault.areas ≡ true

@@ -3,6 +3,8 @@
 use Prim.Native.Nat.{ℕ}
 use mathlib.Core.Path.{◌≡◌, refl}
 use mathlib.Core.Bool.{true, false, not, false≢true}
+use Rattle.std.specs.Prelude.{Option, Some, None}
+use Rattle.rights.specs.Verdict.{Verdict}
 use Rattle.rights.proofs.Cases.{both}
 use Rattle.rights.specs.declared.Session.{Session}
 use Rattle.rights.specs.declared.Session.TheVariants as session
@@ -13,9 +15,6 @@ use Rattle.record.specs.declared.Tag.{Tag}
 use Rattle.record.specs.declared.State.{State}
 use Rattle.record.specs.declared.State.TheVariants.{Ready, Quiet, Selected}
 use Rattle.record.specs.declared.Round.{Round}
-use Rattle.record.specs.declared.Round.TheVariants as round
-use Rattle.record.specs.declared.Held.{Held}
-use Rattle.record.specs.declared.Held.TheVariants as held
 use Rattle.record.specs.Update.{passing_cleared, sessionless}
 use Rattle.record.specs.Tests.{is_ready, no_round, none_held}
 use Rattle.tag.specs.Rules.{last_end, off_rule, round_rule, held_rule, together_rule, sound}
@@ -37,34 +36,34 @@ sound_rules h =
     record { registers = halves.0; off = l.0; round = l.1; held = r.0; together = r.1 }
 
 -- "With the field off nothing passing is set and the state is Ready."
-pub record Off (f : Front) (s : Session) : Type 0 where
+pub record Off (f : Front) (s : Option Session) : Type 0 where
   pub field : f.field ≡ false
   pub state : f.state ≡ Ready
-  pub session : s ≡ session.None
-  pub round : f.round ≡ round.None
-  pub held : f.held ≡ held.None
+  pub session : s ≡ None
+  pub round : f.round ≡ None
+  pub held : f.held ≡ None
 
 ready : (s : State) → is_ready s ≡ true → s ≡ Ready
 ready Ready h = refl
 ready Quiet h = absurd (false≢true h)
 ready Selected h = absurd (false≢true h)
 
-no_session : (s : Session) → not (any_open s) ≡ true → s ≡ session.None
-no_session session.None h = refl
-no_session session.Configuration h = absurd (false≢true h)
-no_session session.User1 h = absurd (false≢true h)
-no_session session.User2 h = absurd (false≢true h)
-no_session session.User3 h = absurd (false≢true h)
+no_session : (s : Option Session) → not (any_open s) ≡ true → s ≡ None
+no_session None h = refl
+no_session (Some session.Configuration) h = absurd (false≢true h)
+no_session (Some session.User1) h = absurd (false≢true h)
+no_session (Some session.User2) h = absurd (false≢true h)
+no_session (Some session.User3) h = absurd (false≢true h)
 
-no_round_lem : (r : Round) → no_round r ≡ true → r ≡ round.None
-no_round_lem round.None h = refl
-no_round_lem (round.Open slot mask) h = absurd (false≢true h)
+no_round_lem : (r : Option Round) → no_round r ≡ true → r ≡ None
+no_round_lem None h = refl
+no_round_lem (Some o) h = absurd (false≢true h)
 
-none_held_lem : (a : Held) → none_held a ≡ true → a ≡ held.None
-none_held_lem held.None h = refl
-none_held_lem (held.Answer v) h = absurd (false≢true h)
+none_held_lem : (a : Option Verdict) → none_held a ≡ true → a ≡ None
+none_held_lem None h = refl
+none_held_lem (Some v) h = absurd (false≢true h)
 
-pub nothing_passing : (f : Front) (s : Session) → off_rule f s ≡ true → f.field ≡ false → Off f s
+pub nothing_passing : (f : Front) (s : Option Session) → off_rule f s ≡ true → f.field ≡ false → Off f s
 unfolding off_rule
 nothing_passing f s h e =
     let halves = both _ _ (rw e at h) in

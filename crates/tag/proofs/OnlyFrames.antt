@@ -4,12 +4,11 @@ use Prim.Native.Nat.{ℕ}
 use mathlib.Core.Path.{◌≡◌, refl}
 use mathlib.Core.List.{List}
 use lib.Dec.{ltb}
+use Rattle.std.specs.Prelude.{Option, Some, None}
+use Rattle.rights.specs.Verdict.{Verdict}
 use Rattle.rights.proofs.Cases.{if_one}
 use Rattle.record.specs.declared.Tag.{Tag}
 use Rattle.record.specs.declared.Round.{Round}
-use Rattle.record.specs.declared.Round.TheVariants as round
-use Rattle.record.specs.declared.Held.{Held}
-use Rattle.record.specs.declared.Held.TheVariants as held
 use Rattle.tag.specs.Work.{Work, perform}
 use Rattle.tag.specs.Inventory.{next_slot}
 use Rattle.tag.specs.Image.{header_of}
@@ -31,15 +30,15 @@ module _ (size : ℕ) (t : Tag) (m : List ℕ) where
   abbrev both : {s : Stepped} → header_of size s.tag ≡ header_of size t → s.memory ≡ m → Lasts s
   both h k = record { header = h; memory = k }
 
-  round_lasts : (r : Round) → Leaves (round_ends r t.front)
+  round_lasts : (r : Option Round) → Leaves (round_ends r t.front)
   unfolding header_of perform next_slot
-  round_lasts round.None = both refl refl
-  round_lasts (round.Open slot mask) = if_one Leaves (ltb slot 15) (λ e. both refl refl) (λ e. both refl refl)
+  round_lasts None = both refl refl
+  round_lasts (Some o) = if_one Leaves (ltb o.slot 15) (λ e. both refl refl) (λ e. both refl refl)
 
-  frame_lasts : (h : Held) → Leaves (frame_ends h t.front)
+  frame_lasts : (h : Option Verdict) → Leaves (frame_ends h t.front)
   unfolding header_of perform
-  frame_lasts held.None = round_lasts t.front.round
-  frame_lasts (held.Answer v) = both refl refl
+  frame_lasts None = round_lasts t.front.round
+  frame_lasts (Some v) = both refl refl
 
   pub lasts : {e : Event} → NoFrame e → Lasts (step t m e)
   unfolding header_of perform work_of step

@@ -5,10 +5,10 @@ use mathlib.Core.Path.{◌≡◌, refl}
 use mathlib.Core.Logic.{◌≢◌}
 use mathlib.Core.Bool.{Bool, true, false, not, ◌&&◌, ◌||◌}
 use mathlib.Core.List.{List}
-use mathlib.Core.Option.{none, some}
 use native.Mathlib.Omega.{arith}
 use lib.ListN.{get_or}
 use borrow.Author.Tests.{ne_eqb}
+use Rattle.std.specs.Prelude.{Some, None}
 use Rattle.put.specs.Number.{number_at}
 use Rattle.rights.specs.declared.View.{View}
 use Rattle.rights.specs.Vault.{view_of}
@@ -32,7 +32,7 @@ use Rattle.tag.proofs.Came as shape
 -- ---- whatever is presented came so
 
 -- what presents nothing presents no claim
-unsaid : {P : Type 0} {c : Claim} → none ≡ some c → P
+unsaid : {P : Type 0} {c : Claim} → None ≡ Some c → P
 unsaid h = let z : ◌≡◌ {A = ℕ} 0 1 = cc in absurd (omega arith)
 
 -- the claim of a frame's fields
@@ -40,7 +40,7 @@ abbrev claim_in : List ℕ → Claim
 claim_in fields = record { number = get_or fields 0 0; value = number_at 8 fields 1 }
 
 act_presents : {v : View} {blocks : ℕ} {fields : List ℕ} {k : Command} {a : Act} {c : Claim}
-    → Asked v blocks fields k a → claim_of a ≡ some c → (k ≡ Present) × (claim_in fields ≡ c)
+    → Asked v blocks fields k a → claim_of a ≡ Some c → (k ≡ Present) × (claim_in fields ≡ c)
 act_presents shape.quiet h = unsaid h
 act_presents (shape.told d e) h = unsaid h
 act_presents (shape.shows address x e) h = unsaid h
@@ -72,7 +72,7 @@ passes_same t u f a b p = record {
 }
 
 module _ (t : Tag) (c : Claim) (on : t.front.field ≡ true) where
-  field_presents : {v : View} {blocks : ℕ} {e : Event} {w : Work} → InField t.front v blocks e w → claim_of w.act ≡ some c → PresentedBy t e c
+  field_presents : {v : View} {blocks : ℕ} {e : Event} {w : Work} → InField t.front v blocks e w → claim_of w.act ≡ Some c → PresentedBy t e c
   unfolding request_of
   field_presents shape.unmoved h = unsaid h
   field_presents (shape.given d k) h = unsaid h
@@ -88,7 +88,7 @@ module _ (t : Tag) (c : Claim) (on : t.front.field ≡ true) where
       rw (← q.1) (in_frame on (present_code (code_of f) q.0) (passes_same (dropped t.front) t.front f refl refl p))
 
 came_presents : (t : Tag) (c : Claim) {v : View} {blocks : ℕ} {e : Event} {w : Work}
-    → Came t.front v blocks e w → claim_of w.act ≡ some c → PresentedBy t e c
+    → Came t.front v blocks e w → claim_of w.act ≡ Some c → PresentedBy t e c
 came_presents t c shape.nothing h = unsaid h
 came_presents t c (shape.cleared on) h = unsaid h
 came_presents t c (shape.inside on i) h = field_presents t c on i h
@@ -112,13 +112,13 @@ passes_heard t f other p =
     let q = passes_same t (dropped t) f refl refl p in
     rw (q.two, q.three, q.four, no_inventory f other q.four, q.five, q.six, q.seven, q.eight, q.nine, q.ten)
 
-frame_presents : (t : Tag) (m : List ℕ) {e : Event} {c : Claim} → PresentedBy t e c → presented t m e ≡ some c
+frame_presents : (t : Tag) (m : List ℕ) {e : Event} {c : Claim} → PresentedBy t e c → presented t m e ≡ Some c
 unfolding presented work_of frame_of request_of act_of entry_of
 frame_presents t m (in_frame {f} on code p) = rw (passes_heard t.front f (λ e. omega arith) p, code, on)
 
 -- ---- the law
 
 pub presented_means : (t : Tag) (m : List ℕ) (e : Event) (c : Claim)
-    → (presented t m e ≡ some c → PresentedBy t e c) × (PresentedBy t e c → presented t m e ≡ some c)
+    → (presented t m e ≡ Some c → PresentedBy t e c) × (PresentedBy t e c → presented t m e ≡ Some c)
 unfolding presented
 presented_means t m e c = (came_presents t c (came t.front (view_of t.vault) (blocks_of m) e), frame_presents t m)

@@ -8,10 +8,10 @@ use native.Mathlib.Omega.{arith}
 use lib.ListN.{length-set}
 use lib.Dec.{leb, ltb, eqb}
 use borrow.Author.Tests.{leb-true, eqb-true}
+use Rattle.std.specs.Prelude.{Option, Some, None, Ok, Err}
 use Rattle.put.proofs.Bytes.{Bytes, none, more, below_append, below_take, below_drop, below_set, below_sets}
 use Rattle.rights.specs.declared.View.{View}
-use Rattle.rights.specs.declared.Verdict.{Verdict}
-use Rattle.rights.specs.declared.Verdict.TheVariants.{Success, Error}
+use Rattle.rights.specs.Verdict.{Verdict}
 use Rattle.rights.specs.Vault.{view_of}
 use Rattle.rights.specs.Passwords.{present_of}
 use Rattle.rights.specs.Blocks.{readable_at}
@@ -22,9 +22,6 @@ use Rattle.record.specs.declared.Front.{Front}
 use Rattle.record.specs.declared.Tag.{Tag}
 use Rattle.record.specs.declared.State.{State}
 use Rattle.record.specs.declared.Round.{Round}
-use Rattle.record.specs.declared.Round.TheVariants as round
-use Rattle.record.specs.declared.Held.{Held}
-use Rattle.record.specs.declared.Held.TheVariants as held
 use Rattle.record.specs.Update.{with_state, with_round, with_held, passing_cleared}
 use Rattle.tag.specs.Rules.{is_code, held_rule}
 use Rattle.tag.specs.Work.{Answer, verdict, Unit, block, register, afi, dsfid, block_lock, afi_lock, dsfid_lock, password, Act, says, lists, presents, writes, closes, block_shown, listing, unit_on_tag, unit_on_memory, apply_to_tag, apply_to_memory, Done, perform}
@@ -33,13 +30,13 @@ use Rattle.tag.proofs.Codes.{Coded, present_coded}
 
 -- ---- a record
 
-abbrev pub round_bytes : Round → List ℕ
-round_bytes round.None = []
-round_bytes (round.Open slot mask) = slot ∷ mask ∷ []
+abbrev pub round_bytes : Option Round → List ℕ
+round_bytes None = []
+round_bytes (Some o) = o.slot ∷ o.mask ∷ []
 
-abbrev pub held_bytes : Held → List ℕ
-held_bytes held.None = []
-held_bytes (held.Answer v) = carried (verdict v)
+abbrev pub held_bytes : Option Verdict → List ℕ
+held_bytes None = []
+held_bytes (Some v) = carried (verdict v)
 
 pub record RangedFront (f : Front) : Type 0 where
   pub uid : f.uid < 2 ^ 64
@@ -59,10 +56,10 @@ module _ {f : Front} (r : RangedFront f) where
   pub state_ranged : (s : State) → RangedFront (with_state f s)
   state_ranged s = record { uid = r.uid; afi = r.afi; dsfid = r.dsfid; round = r.round; held = r.held }
 
-  pub round_ranged : (x : Round) → Bytes (round_bytes x) → RangedFront (with_round f x)
+  pub round_ranged : (x : Option Round) → Bytes (round_bytes x) → RangedFront (with_round f x)
   round_ranged x p = record { uid = r.uid; afi = r.afi; dsfid = r.dsfid; round = p; held = r.held }
 
-  pub held_ranged : (x : Held) → Bytes (held_bytes x) → RangedFront (with_held f x)
+  pub held_ranged : (x : Option Verdict) → Bytes (held_bytes x) → RangedFront (with_held f x)
   held_ranged x p = record { uid = r.uid; afi = r.afi; dsfid = r.dsfid; round = r.round; held = p }
 
   pub cleared_ranged : (on : Bool) → RangedFront (passing_cleared f on)
@@ -101,8 +98,8 @@ code_byte_lem c h =
 
 pub verdict_bytes : (v : Verdict) → Coded v → Bytes (carried (verdict v))
 unfolding held_rule
-verdict_bytes Success h = none
-verdict_bytes (Error c) h = more (code_byte_lem c h) none
+verdict_bytes (Ok tt) h = none
+verdict_bytes (Err c) h = more (code_byte_lem c h) none
 
 -- ---- units
 

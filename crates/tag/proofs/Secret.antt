@@ -11,10 +11,9 @@ use Rattle.std.specs.Prelude.{if◌then◌else◌}
 use Rattle.rights.specs.declared.View.{View}
 use Rattle.rights.proofs.Cases.{both}
 use Rattle.record.specs.declared.Tag.{Tag}
-use Rattle.record.specs.declared.Outcome.{Outcome}
 use Rattle.tag.specs.Rules.{blocks_of, sound}
 use Rattle.tag.specs.Step.{Event, step, run}
-use Rattle.tag.specs.Host.{is_memory, least_room, EventGiven, event_refused, event_done, event_given, EventGives}
+use Rattle.tag.specs.Host.{Reply, is_memory, least_room, EventGiven, event_refused, event_done, event_given, EventGives}
 use Rattle.tag.specs.Demand3.{served}
 use Rattle.tag.specs.Secrecy.{Shut, presented, opens, unopened, Alike, Secrecy, unrefused, SameCall, given_by, CallSecrecy, unopened_calls, CallsSecrecy}
 use Rattle.tag.proofs.Unchanged.{as_it_was, kept_after, kept_step, unchanged}
@@ -110,12 +109,12 @@ module _ (chosen : ℕ → Bool) where
         (given_same (is_memory m) (ltb (length x) least_room) (sound (blocks_of m) t))
 
   -- what a call gives that keeps its promise
-  as_given : {t : Tag} {e : Event} {m x m' x' : List ℕ} {r : Outcome} → EventGives t e m x m' x' r → event_given t e m x ≡ given_by r m' x'
+  as_given : {t : Tag} {e : Event} {m x m' x' : List ℕ} {r : Reply} → EventGives t e m x m' x' r → event_given t e m x ≡ given_by t r m' x'
   as_given g = sym (λ i. record { number = g.number i; length = g.length i; tag = g.tag i; memory = g.memory i; room = g.room i })
 
   pub call_secrecy : CallSecrecy chosen
   call_secrecy t u m o e x r s m' o' x' y' a shut p q g h =
-      subst (SameCall chosen t u m o (given_by r m' x')) (as_given h)
+      subst (SameCall chosen t u m o (given_by t r m' x')) (as_given h)
       (subst (λ (k : EventGiven). SameCall chosen t u m o k (event_given u e o x)) (as_given g)
       (call_same t u m o e x a shut (rw g.number at p) (rw h.number at q)))
 

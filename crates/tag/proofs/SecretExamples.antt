@@ -9,10 +9,11 @@ use mathlib.Core.Bool.{Bool, true, false}
 use mathlib.Core.List.{List, [], ◌∷◌, ◌++◌, map}
 use native.Mathlib.Omega.{arith}
 use lib.ListN.{length, get_or, take, replicate}
+use Rattle.std.specs.Prelude.{Option, Some, None}
 use Rattle.put.specs.Number.{number_at, bytes_of}
 use Rattle.crc.specs.Crc.{crc_bit, crc_bits, crc_byte, crc_from, crc_of, crc_bytes}
 use Rattle.rights.specs.declared.Session.{Session}
-use Rattle.rights.specs.declared.Session.TheVariants.{None, Configuration, User1}
+use Rattle.rights.specs.declared.Session.TheVariants.{Configuration, User1}
 use Rattle.rights.specs.Vault.{view_of}
 use Rattle.rights.specs.Passwords.{session_of, is_open, password_of, present_of, change_verdict}
 use Rattle.rights.specs.Blocks.{area_of, register_of, serves, may_read, may_write, readable_at, writable_at, locked_at, barred_at, status_at, crosses_at, any_barred, hidden_by}
@@ -85,7 +86,7 @@ module _ {p : ℕ} {t u : Tag} {m o : List ℕ} {es : List Event} {said : List (
 
 -- a 16 Kbit tag. Area 1 is blocks 0 to 7; Area 2, blocks 8 to 15, is read and written in the session of password 1; Area 3, the rest, is
 -- written in that of password 2, whose value is that of the first tag's password 1
-pub tag_of : Session → ℕ → Tag
+pub tag_of : Option Session → ℕ → Tag
 tag_of s p = record {
   front = (factory 63 ours).front;
   vault = record {
@@ -281,10 +282,10 @@ answers_at_the_end =
 -- ---- lists that break a premise, for the pair in the field
 
 -- the pair in the field, with a session open
-pub first_in : Session → Tag
+pub first_in : Option Session → Tag
 first_in s = with_field (tag_of s 0x1111111111111111)
 
-pub second_in : Session → Tag
+pub second_in : Option Session → Tag
 second_in s = with_field (tag_of s 0x2222222222222222)
 
 -- block 8 is read
@@ -340,10 +341,10 @@ pub record Computed : Type 0 where
   pub said : told (served first first_memory calls).seen ≡ numbers
   pub large : Plays 3 third third_memory at_the_end true answers_at_the_end
   pub large' : unopened (only 3) fourth fourth_memory at_the_end ≡ true
-  pub its : Plays 1 (first_in User1) first_memory reading true (first_eight ∷ [])
-  pub its' : Plays 1 (second_in User1) second_memory reading true (second_eight ∷ [])
-  pub configuration : Plays 1 (first_in Configuration) first_memory writing true (success ∷ first_eight ∷ [])
-  pub configuration' : Plays 1 (second_in Configuration) second_memory writing true (success ∷ second_eight ∷ [])
+  pub its : Plays 1 (first_in (Some User1)) first_memory reading true (first_eight ∷ [])
+  pub its' : Plays 1 (second_in (Some User1)) second_memory reading true (second_eight ∷ [])
+  pub configuration : Plays 1 (first_in (Some Configuration)) first_memory writing true (success ∷ first_eight ∷ [])
+  pub configuration' : Plays 1 (second_in (Some Configuration)) second_memory writing true (success ∷ second_eight ∷ [])
   pub opened : Plays 1 (first_in None) first_memory opening false (success ∷ first_eight ∷ [])
   pub opened' : Plays 1 (second_in None) second_memory opening true (wrong ∷ unreadable ∷ [])
   pub other : Plays 1 (first_in None) first_memory opening_other true (wrong ∷ unreadable ∷ [])
@@ -384,7 +385,7 @@ one e = omega arith
 shut_none : (p : ℕ) → Shut (only p) None
 shut_none p = record { closed = λ n g. none_open n }
 
-alike_small : (s : Session) → Alike (only 1) (tag_of s 0x1111111111111111) (tag_of s 0x2222222222222222) first_memory second_memory
+alike_small : (s : Option Session) → Alike (only 1) (tag_of s 0x1111111111111111) (tag_of s 0x2222222222222222) first_memory second_memory
 unfolding tag_of first_memory second_memory memory_of lowest bytes bytes_of hidden_by area_of register_of
 alike_small s = record {
   front = refl;
@@ -467,7 +468,7 @@ still =
 
 -- the two tags with session s open at the start are alike; whether each of them hears none of its own passwords that guard; and their
 -- answers differ
-pub record Broken (s : Session) (es : List Event) (b c : Bool) : Type 0 where
+pub record Broken (s : Option Session) (es : List Event) (b c : Bool) : Type 0 where
   pub sound : sound (blocks_of first_memory) (first_in s) ≡ true
   pub alike : Alike (only 1) (first_in s) (second_in s) first_memory second_memory
   pub met : unopened (only 1) (first_in s) first_memory es ≡ b
@@ -478,7 +479,7 @@ pub record Broken (s : Session) (es : List Event) (b c : Bool) : Type 0 where
 byte : ℕ → ℕ → List (List ℕ) → ℕ
 byte i j said = get_or (get_or said i []) j 0
 
-broken : {s : Session} {es : List Event} {b c : Bool} {x y : List (List ℕ)} (i j : ℕ) → byte i j x ≢ byte i j y
+broken : {s : Option Session} {es : List Event} {b c : Bool} {x y : List (List ℕ)} (i j : ℕ) → byte i j x ≢ byte i j y
     → Plays 1 (first_in s) first_memory es b x → Plays 1 (second_in s) second_memory es c y → Broken s es b c
 unfolding with_field first_in second_in tag_of
 broken {s} i j d p q = record {
@@ -491,8 +492,8 @@ broken {s} i j d p q = record {
 
 pub record EachNeeded : Type 0 where
   -- "In neither is its session or the configuration session open": its own is; the configuration session is
-  pub its_session : Broken User1 reading true true
-  pub configuration_session : Broken Configuration writing true true
+  pub its_session : Broken (Some User1) reading true true
+  pub configuration_session : Broken (Some Configuration) writing true true
   -- "neither tag's chosen password .. is presented": the first tag's is; the second tag's is
   pub first_presented : Broken None opening false true
   pub other_presented : Broken None opening_other true false

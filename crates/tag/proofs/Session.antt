@@ -10,11 +10,11 @@ use native.Mathlib.Omega.{arith}
 use lib.ListN.{length, get_or}
 use lib.Dec.{eqb}
 use borrow.Author.Tests.{le-ltb}
+use Rattle.std.specs.Prelude.{Option, Ok}
 use Rattle.put.specs.Number.{number_at}
 use Rattle.rights.specs.declared.Keys.{Keys}
 use Rattle.rights.specs.declared.Session.{Session}
 use Rattle.rights.specs.declared.Vault.{Vault}
-use Rattle.rights.specs.declared.Verdict.TheVariants.{Success}
 use Rattle.rights.specs.declared.View.{View}
 use Rattle.rights.specs.Vault.{view_of}
 use Rattle.rights.specs.Passwords.{is_open, password_of, with_password, change_verdict}
@@ -38,7 +38,7 @@ use Rattle.tag.proofs.Came as shape
 use Rattle.tag.proofs.Presented.{passes_heard}
 
 -- the open session
-abbrev open_in : Tag → Session
+abbrev open_in : Tag → Option Session
 open_in t = t.vault.keys.session
 
 -- ---- what a request does
@@ -146,4 +146,4 @@ password_replaced t m f on code p small own four =
     let n = get_or (fields_from (fields_at f) f) 0 0 in
     let w = number_at 8 (fields_from (fields_at f) f) 1 in
     rw (keys_after t m f on code p small own)
-    (record { its = change_replaces k n w (omega (arith, small, four)); others = λ i h. change_leaves Success k n w i h; session = refl })
+    (record { its = change_replaces k n w (omega (arith, small, four)); others = λ i h. change_leaves (Ok tt) k n w i h; session = refl })

@@ -6,9 +6,8 @@ use mathlib.Core.Bool.{Bool, true, false, ◌&&◌, ◌||◌}
 use mathlib.Core.List.{List, [], ◌∷◌, ◌++◌}
 use native.Mathlib.Omega.{arith}
 use lib.Dec.{ltb, eqb}
-use Rattle.std.specs.Prelude.{if◌then◌else◌}
+use Rattle.std.specs.Prelude.{if◌then◌else◌, Some, None}
 use Rattle.rights.specs.declared.View.{View}
-use Rattle.rights.specs.declared.Session.TheVariants.{None}
 use Rattle.rights.specs.Vault.{view_of}
 use Rattle.rights.specs.Passwords.{password_of}
 use Rattle.rights.specs.Blocks.{readable_at, status_at}
@@ -17,7 +16,6 @@ use Rattle.rights.proofs.Sessions.{present_keeps}
 use Rattle.rights.proofs.HiddenBlocks.{readable_unhidden, present_same}
 use Rattle.record.specs.declared.Front.{Front}
 use Rattle.record.specs.declared.Tag.{Tag}
-use Rattle.record.specs.declared.Held.TheVariants as held
 use Rattle.record.specs.Update.{with_afi, with_dsfid, with_afi_locked, with_dsfid_locked, with_front, with_held}
 use Rattle.tag.specs.Rules.{blocks_of}
 use Rattle.tag.specs.Work.{Answer, silence, verdict, body, Unit, block, register, afi, dsfid, block_lock, afi_lock, dsfid_lock, password, Act, says, lists, presents, writes, closes, Work, shown, block_shown, listing, unit_on_tag, unit_on_memory, apply_to_tag, apply_to_memory, Done, perform}
@@ -157,7 +155,7 @@ module _ (chosen : ℕ → Bool) where
   settled_alike : (hold : Bool) (x : Answer) (t u : Tag) (m o : List ℕ) → Alike chosen t u m o
       → SameStep (settled hold x t m) (settled hold x u o)
   settled_alike true (verdict d) t u m o a =
-      record { answer = refl; alike = fronts t u m o _ _ (ap (λ (f : Front). with_held f (held.Answer d)) a.front) a }
+      record { answer = refl; alike = fronts t u m o _ _ (ap (λ (f : Front). with_held f (Some d)) a.front) a }
   settled_alike true silence t u m o a = record { answer = refl; alike = a }
   settled_alike true (body b) t u m o a = record { answer = refl; alike = a }
   settled_alike false x t u m o a = record { answer = refl; alike = a }

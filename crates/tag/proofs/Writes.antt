@@ -7,10 +7,10 @@ use Prim.Native.Nat.{ℕ, zero, suc, ◌+◌, ◌≤◌, ◌<◌}
 use native.Mathlib.Omega.{arith}
 use lib.Dec.{leb, ltb, eqb}
 use borrow.Author.Tests.{ltb-false, leb-false, eqb-true}
-use Rattle.std.specs.Prelude.{if◌then◌else◌}
+use Rattle.std.specs.Prelude.{if◌then◌else◌, Ok, Err}
+use Rattle.rights.specs.Verdict.{Verdict}
 use Rattle.rights.specs.declared.Vault.{Vault}
 use Rattle.rights.specs.declared.View.{View}
-use Rattle.rights.specs.declared.Verdict.TheVariants.{Success, Error}
 use Rattle.rights.specs.Vault.{view_of}
 use Rattle.rights.specs.Blocks.{writable_at, locked_at, crosses_at, any_barred}
 use Rattle.record.specs.declared.Tag.{Tag}
@@ -22,14 +22,14 @@ pub record GrantedWrite (v : View) (limit first more : ℕ) : Type 0 where
   pub within : first + more < limit
   pub unbarred : any_barred v first (more + 1) ≡ false
 
-pub write_granted : (v : View) (limit first more : ℕ) → write_verdict v limit first more ≡ Success → GrantedWrite v limit first more
+pub write_granted : (v : View) (limit first more : ℕ) → write_verdict v limit first more ≡ Ok tt → GrantedWrite v limit first more
 unfolding write_verdict
 write_granted v limit first more h =
     let f = go (ltb 4 (more + 1)) (leb limit (first + more)) (crosses_at v.areas first more) (any_barred v first (more + 1)) h in
     record { few = omega (arith, ltb-false 4 (more + 1) f.0); within = leb-false limit (first + more) f.1.0; unbarred = f.1.1 }
   where
     go : (many outside crossed barred : Bool)
-        → (if many then Error 0x0F else if outside then Error 0x10 else if crossed then Error 0x0F else if barred then Error 0x12 else Success) ≡ Success
+        → (if◌then◌else◌ {A = Verdict} many (Err 0x0F) (if outside then Err 0x10 else if crossed then Err 0x0F else if barred then Err 0x12 else Ok tt)) ≡ Ok tt
         → (many ≡ false) × ((outside ≡ false) × (barred ≡ false))
     go true outside crossed barred h = let z : ◌≡◌ {A = ℕ} 0 1 = cc in absurd (omega arith)
     go false true crossed barred h = let z : ◌≡◌ {A = ℕ} 0 1 = cc in absurd (omega arith)
@@ -54,17 +54,17 @@ module _ (v : Vault) where
       first false e = set (eqb c 1) v.lock1 false
   one_set (suc (suc b)) c h = absurd (omega arith)
 
-lock_low : (v : View) (b : ℕ) → lock_verdict v b ≡ Success → b ≤ 1
+lock_low : (v : View) (b : ℕ) → lock_verdict v b ≡ Ok tt → b ≤ 1
 unfolding lock_verdict
 lock_low v b h = go (ltb 1 b) refl h
   where
     go : (over : Bool) → ltb 1 b ≡ over
-        → (if over then Error 0x10 else if locked_at v b then Error 0x11 else if not (writable_at v b) then Error 0x14 else Success) ≡ Success → b ≤ 1
+        → (if◌then◌else◌ {A = Verdict} over (Err 0x10) (if locked_at v b then Err 0x11 else if not (writable_at v b) then Err 0x14 else Ok tt)) ≡ Ok tt → b ≤ 1
     go true e h = let z : ◌≡◌ {A = ℕ} 0 1 = cc in absurd (omega arith)
     go false e h = ltb-false 1 b e
 
 -- "Locks 22h, 32h": a lock that is granted locks its block, and no other
-pub locks_its_own : (t : Tag) (m : List ℕ) (b c : ℕ) → lock_verdict (view_of t.vault) b ≡ Success
+pub locks_its_own : (t : Tag) (m : List ℕ) (b c : ℕ) → lock_verdict (view_of t.vault) b ≡ Ok tt
     → locked_at (view_of (perform t m (lock_of (view_of t.vault) b)).tag.vault) c ≡ (locked_at (view_of t.vault) c || eqb c b)
 unfolding perform apply_to_tag
 locks_its_own t m b c h = rw h (one_set t.vault b c (lock_low (view_of t.vault) b h))

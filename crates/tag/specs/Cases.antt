@@ -2,7 +2,7 @@
 -- session that 01 prints. Expected bytes are literals: of 01, or of the second model where 01 gives no bytes. An expected record is the case's own,
 -- with what its events change.
 -- Assumes nothing.
-use Rattle.std.specs.Prelude.{ℕ, suc, ◌≡◌, true, List, [], ◌∷◌, ◌++◌, reverse, replicate}
+use Rattle.std.specs.Prelude.{ℕ, suc, ◌≡◌, true, List, [], ◌∷◌, ◌++◌, reverse, replicate, Option, Some}
 use Rattle.put.specs.Number.{bytes_of}
 use Rattle.crc.specs.Crc.{crc_bytes}
 use Rattle.rights.specs.declared.Areas.{Areas}
@@ -11,8 +11,7 @@ use Rattle.rights.specs.declared.Session.TheVariants.{Configuration}
 use Rattle.rights.specs.Passwords.{with_session}
 use Rattle.rights.specs.Blocks.{area_of}
 use Rattle.record.specs.declared.Tag.{Tag}
-use Rattle.record.specs.declared.Round.TheVariants as round
-use Rattle.record.specs.Update.{with_round, with_front, with_vault, with_keys}
+use Rattle.record.specs.Update.{with_round, with_front, with_vault, with_keys, running}
 use Rattle.tag.specs.Step.{Event, field_on, end_of_frame, request, run}
 use Rattle.tag.specs.Image.{factory}
 
@@ -75,11 +74,11 @@ with_field t = with_front t (record {
   held = t.front.held;
 })
 
-unfoldable pub in_session : Session → Tag → Tag
+unfoldable pub in_session : Option Session → Tag → Tag
 in_session s t = with_vault t (with_keys t.vault (with_session t.vault.keys s))
 
 unfoldable pub in_round : ℕ → Tag → Tag
-in_round mask t = with_front t (with_round t.front (round.Open 0 mask))
+in_round mask t = with_front t (with_round t.front (running 0 mask))
 
 -- 8,192 bytes, zero but for 01h to 0Ch in blocks 102 to 104
 unfoldable pub filled : List ℕ
@@ -128,7 +127,7 @@ cases =
     (field_on ∷ request (bytes 14 0x02B3020000000000000000004CC5) ∷ request (bytes 7 0x02A102070CA555) ∷ request (bytes 7 0x02A102070D2C44)
     ∷ request (bytes 7 0x02A1020505D4FB) ∷ request (bytes 6 0x02A00207708D) ∷ [])
     ([] ∷ (bytes 3 0x0078F0) ∷ (bytes 4 0x01138534) ∷ (bytes 3 0x0078F0) ∷ (bytes 4 0x01138534) ∷ (bytes 4 0x000DA2D4) ∷ [])
-    (with_field (in_session Configuration (with_areas split (ends 0 12 13 255)))) (replicate 8192 0)
+    (with_field (in_session (Some Configuration) (with_areas split (ends 0 12 13 255)))) (replicate 8192 0)
     -- "Session 2 open, wrong password 1: 0Fh, session 2 closed."
     ∷ played (factory 63 ours) (replicate 2048 0)
     (field_on ∷ request (bytes 14 0x02B302020000000000000000B65E) ∷ request (bytes 14 0x02B3020101000000000000000E09)

@@ -1,12 +1,9 @@
 -- Each command, decided from all of the record but the passwords, and without the memory.
 -- Assumes nothing.
-use Rattle.std.specs.Prelude.{ℕ, ◌+◌, Bool, true, false, ◌&&◌, List, [], ◌∷◌, get_or, if◌then◌else◌}
+use Rattle.std.specs.Prelude.{ℕ, ◌+◌, Bool, true, false, ◌&&◌, List, [], ◌∷◌, get_or, if◌then◌else◌, Result, Ok, Err}
 use Rattle.put.specs.Number.{number_at}
 use Rattle.rights.specs.declared.View.{View}
-use Rattle.rights.specs.declared.Verdict.{Verdict}
-use Rattle.rights.specs.declared.Verdict.TheVariants.{Success, Error}
-use Rattle.rights.specs.declared.registers.RegisterRead.{RegisterRead}
-use Rattle.rights.specs.declared.registers.RegisterRead.TheVariants as read
+use Rattle.rights.specs.Verdict.{Verdict}
 use Rattle.rights.specs.Passwords.{change_verdict}
 use Rattle.rights.specs.Registers.{register_at, register_verdict}
 use Rattle.record.specs.declared.Front.{Front}
@@ -43,12 +40,12 @@ front_after Unlisted t = t
 
 -- "Write AFI 27h, DSFID 29h: locked 12h. Lock AFI 28h, DSFID 2Ah: locked already 11h."
 abbrev pub unless : Bool → ℕ → Verdict
-unless locked code = if locked then Error code else Success
+unless locked code = if locked then Err code else Ok tt
 
 -- the error of a read, or the register's byte
-abbrev pub register_answer : RegisterRead → Act
-register_answer (read.Error c) = says (error c)
-register_answer (read.Value x) = says (body (x ∷ []))
+abbrev pub register_answer : Result ℕ ℕ → Act
+register_answer (Err c) = says (error c)
+register_answer (Ok x) = says (body (x ∷ []))
 
 -- what a command does, on a tag of so many blocks; its fields begin with a block, an address, a password's number or a byte
 unfoldable pub act_of : Command → Front → View → ℕ → Entry → Bool → List ℕ → Act
@@ -58,8 +55,8 @@ act_of Read t v blocks e option fields =
 act_of Write t v blocks e option fields =
     write_of v (limit_of e blocks) (first_of e fields) (more_of e fields) (data_of e fields)
 act_of Lock t v blocks e option fields = lock_of v (first_of e fields)
-act_of Select t v blocks e option fields = says (verdict Success)
-act_of ResetToReady t v blocks e option fields = says (verdict Success)
+act_of Select t v blocks e option fields = says (verdict (Ok tt))
+act_of ResetToReady t v blocks e option fields = says (verdict (Ok tt))
 act_of WriteAfi t v blocks e option fields = granted (unless t.lockafi 0x12) (writes (afi (get_or fields 0 0) ∷ []))
 act_of LockAfi t v blocks e option fields = granted (unless t.lockafi 0x11) (writes (afi_lock ∷ []))
 act_of WriteDsfid t v blocks e option fields = granted (unless t.lockdsfid 0x12) (writes (dsfid (get_or fields 0 0) ∷ []))

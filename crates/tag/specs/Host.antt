@@ -1,6 +1,7 @@
 -- "Host calls and their numbers": what each call gives, for every input whatever.
 -- Assumes nothing.
-use Rattle.std.specs.Prelude.{ℕ, ◌+◌, Bool, not, ◌||◌, ◌&&◌, ◌≡◌, List, ◌++◌, length, drop, replicate, ltb, eqb, if◌then◌else◌}
+use Rattle.std.specs.Prelude.{ℕ, ◌+◌, Bool, not, ◌||◌, ◌&&◌, ◌≡◌, List, ◌++◌, length, drop, replicate, ltb, eqb, if◌then◌else◌, Option, Some, None, Result, Ok, Err}
+use Rattle.std.specs.Result.{result_err}
 use Rattle.record.specs.declared.Tag.{Tag}
 use Rattle.record.specs.declared.Refusal.{Refusal}
 use Rattle.record.specs.declared.Refusal.TheVariants as refusal
@@ -12,40 +13,54 @@ use Rattle.tag.specs.Fault.{Fault, fault, header_fault}
 
 -- the number of each refusal that the code names, 1 to 4 in 01 and the others in 02, 5a to 5e being 5Ah to 5Eh, 0 for none; what a call gives
 -- is said by these numbers
-abbrev pub number_of : Refusal → ℕ
-number_of refusal.None = 0
-number_of refusal.Memory = 1
-number_of refusal.Room = 2
-number_of refusal.Record = 3
-number_of refusal.Image = 4
-number_of (refusal.Mark place) = 0x5A
-number_of (refusal.Lock place) = 0x5B
-number_of (refusal.Protection place) = 0x5C
-number_of (refusal.End place) = 0x5D
-number_of (refusal.Reserved place) = 0x5E
-number_of refusal.Tags = 6
-number_of refusal.Equal = 7
-number_of refusal.Small = 18
+abbrev pub number_of : Option Refusal → ℕ
+number_of None = 0
+number_of (Some refusal.Memory) = 1
+number_of (Some refusal.Room) = 2
+number_of (Some refusal.Record) = 3
+number_of (Some refusal.Image) = 4
+number_of (Some (refusal.Mark place)) = 0x5A
+number_of (Some (refusal.Lock place)) = 0x5B
+number_of (Some (refusal.Protection place)) = 0x5C
+number_of (Some (refusal.End place)) = 0x5D
+number_of (Some (refusal.Reserved place)) = 0x5E
+number_of (Some refusal.Tags) = 6
+number_of (Some refusal.Equal) = 7
+number_of (Some refusal.Small) = 18
 
 -- 02: ".. with the lowest offending byte's place", 0 for a refusal that has none
-abbrev pub place_of : Refusal → ℕ
-place_of refusal.None = 0
-place_of refusal.Memory = 0
-place_of refusal.Room = 0
-place_of refusal.Record = 0
-place_of refusal.Image = 0
-place_of (refusal.Mark place) = place
-place_of (refusal.Lock place) = place
-place_of (refusal.Protection place) = place
-place_of (refusal.End place) = place
-place_of (refusal.Reserved place) = place
-place_of refusal.Tags = 0
-place_of refusal.Equal = 0
-place_of refusal.Small = 0
+abbrev pub place_of : Option Refusal → ℕ
+place_of None = 0
+place_of (Some refusal.Memory) = 0
+place_of (Some refusal.Room) = 0
+place_of (Some refusal.Record) = 0
+place_of (Some refusal.Image) = 0
+place_of (Some (refusal.Mark place)) = place
+place_of (Some (refusal.Lock place)) = place
+place_of (Some (refusal.Protection place)) = place
+place_of (Some (refusal.End place)) = place
+place_of (Some (refusal.Reserved place)) = place
+place_of (Some refusal.Tags) = 0
+place_of (Some refusal.Equal) = 0
+place_of (Some refusal.Small) = 0
 
 -- number and place, as of a fault
-abbrev pub fault_of : Refusal → Fault
+abbrev pub fault_of : Option Refusal → Fault
 fault_of r = fault (number_of r) (place_of r)
+
+-- ---- what a call returns: an outcome, or a refusal. "A refusal returns its number and length 0; record and buffers stay."
+
+abbrev pub Reply : Type 0
+Reply = Result Outcome Refusal
+
+abbrev pub length_in : Reply → ℕ
+length_in (Ok o) = o.length
+length_in (Err r) = 0
+
+-- the record after a call made on a record
+abbrev pub tag_after : Tag → Reply → Tag
+tag_after t (Ok o) = o.tag
+tag_after t (Err r) = t
 
 -- 1: "user memory lent is not 2,048 or 8,192 bytes"
 abbrev pub is_memory : List ℕ → Bool
@@ -92,10 +107,10 @@ event_given t e m x =
     event_done t e m x
 
 -- a call at entry (t, e, m, x), x the room, that leaves m' and x' and returns r
-pub record EventGives (t : Tag) (e : Event) (m x m' x' : List ℕ) (r : Outcome) : Type 0 where
-  pub number : number_of r.refusal ≡ (event_given t e m x).number
-  pub length : r.length ≡ (event_given t e m x).length
-  pub tag : r.tag ≡ (event_given t e m x).tag
+pub record EventGives (t : Tag) (e : Event) (m x m' x' : List ℕ) (r : Reply) : Type 0 where
+  pub number : number_of (result_err r) ≡ (event_given t e m x).number
+  pub length : length_in r ≡ (event_given t e m x).length
+  pub tag : tag_after t r ≡ (event_given t e m x).tag
   pub memory : m' ≡ (event_given t e m x).memory
   pub room : x' ≡ (event_given t e m x).room
 
@@ -109,12 +124,12 @@ pub record LoadGiven : Type 0 where
   pub tag : Tag
   pub memory : List ℕ
 
--- a call that is to give g leaves the memory m' and returns r
-pub record Fills (g : LoadGiven) (m' : List ℕ) (r : Outcome) : Type 0 where
-  pub number : number_of r.refusal ≡ g.number
-  pub place : place_of r.refusal ≡ g.place
-  pub length : r.length ≡ g.length
-  pub tag : r.tag ≡ g.tag
+-- a call on the record t that is to give g leaves the memory m' and returns r
+pub record Fills (g : LoadGiven) (t : Tag) (m' : List ℕ) (r : Reply) : Type 0 where
+  pub number : number_of (result_err r) ≡ g.number
+  pub place : place_of (result_err r) ≡ g.place
+  pub length : length_in r ≡ g.length
+  pub tag : tag_after t r ≡ g.tag
   pub memory : m' ≡ g.memory
 
 abbrev pub load_refused : ℕ → ℕ → Tag → List ℕ → LoadGiven
@@ -129,8 +144,8 @@ load_given t i m =
     if not (header_rule (blocks_of m) i) then load_refused f.number f.place t m else
     record { number = 0; place = 0; length = 0; tag = tag_in i; memory = drop header_length i }
 
-abbrev pub LoadGives : Tag → List ℕ → List ℕ → List ℕ → Outcome → Type 0
-LoadGives t i m m' r = Fills (load_given t i m) m' r
+abbrev pub LoadGives : Tag → List ℕ → List ℕ → List ℕ → Reply → Type 0
+LoadGives t i m m' r = Fills (load_given t i m) t m' r
 
 -- ---- saving
 
@@ -151,10 +166,10 @@ save_given t m i =
     if not (sound (blocks_of m) t) then save_refused 3 t i else
     record { number = 0; length = header_length + length m; tag = t; image = image_of t m }
 
-pub record SaveGives (t : Tag) (m i i' : List ℕ) (r : Outcome) : Type 0 where
-  pub number : number_of r.refusal ≡ (save_given t m i).number
-  pub length : r.length ≡ (save_given t m i).length
-  pub tag : r.tag ≡ (save_given t m i).tag
+pub record SaveGives (t : Tag) (m i i' : List ℕ) (r : Reply) : Type 0 where
+  pub number : number_of (result_err r) ≡ (save_given t m i).number
+  pub length : length_in r ≡ (save_given t m i).length
+  pub tag : tag_after t r ≡ (save_given t m i).tag
   pub image : i' ≡ (save_given t m i).image
 
 -- ---- making a factory tag
@@ -166,5 +181,5 @@ factory_given t uid m =
     if not (is_memory m) then load_refused 1 0 t m else
     record { number = 0; place = 0; length = 0; tag = factory (last_end (blocks_of m)) uid; memory = replicate (length m) 0 }
 
-abbrev pub FactoryGives : Tag → ℕ → List ℕ → List ℕ → Outcome → Type 0
-FactoryGives t uid m m' r = Fills (factory_given t uid m) m' r
+abbrev pub FactoryGives : Tag → ℕ → List ℕ → List ℕ → Reply → Type 0
+FactoryGives t uid m m' r = Fills (factory_given t uid m) t m' r

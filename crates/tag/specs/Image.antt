@@ -1,14 +1,12 @@
 -- "Image: 64-byte header, then user memory."
 -- Assumes nothing.
-use Rattle.std.specs.Prelude.{ℕ, zero, suc, ◌+◌, ◌-◌, ◌*◌, Bool, true, false, ◌&&◌, List, [], ◌∷◌, ◌++◌, length, get_or, replicate, leb, eqb, if◌then◌else◌}
+use Rattle.std.specs.Prelude.{ℕ, zero, suc, ◌+◌, ◌-◌, ◌*◌, Bool, true, false, ◌&&◌, List, [], ◌∷◌, ◌++◌, length, get_or, replicate, leb, eqb, if◌then◌else◌, None}
 use Rattle.put.specs.Number.{number_at, bytes_of}
 use Rattle.rights.specs.declared.Areas.{Areas}
 use Rattle.rights.specs.declared.Session.TheVariants as session
 use Rattle.rights.specs.Registers.{one_if, registers_of, possible}
 use Rattle.record.specs.declared.Tag.{Tag}
 use Rattle.record.specs.declared.State.TheVariants.{Ready}
-use Rattle.record.specs.declared.Round.TheVariants as round
-use Rattle.record.specs.declared.Held.TheVariants as held
 use Rattle.tag.specs.Rules.{last_end}
 use Rattle.tag.specs.Frame.{bit}
 
@@ -33,8 +31,8 @@ passwords_in i = number_at 8 i 19 ∷ number_at 8 i 27 ∷ number_at 8 i 35 ∷ 
 -- the field off."
 unfoldable pub tag_in : List ℕ → Tag
 tag_in i = record {
-  front = record { uid = number_at 8 i 1; afi = get_or i 9 0; dsfid = get_or i 10 0; lockafi = bit 2 (get_or i 11 0); lockdsfid = bit 3 (get_or i 11 0); field = false; state = Ready; round = round.None; held = held.None };
-  vault = record { areas = areas_in i; lock0 = bit 0 (get_or i 11 0); lock1 = bit 1 (get_or i 11 0); lockcfg = bit 4 (get_or i 11 0); keys = record { passwords = passwords_in i; session = session.None } };
+  front = record { uid = number_at 8 i 1; afi = get_or i 9 0; dsfid = get_or i 10 0; lockafi = bit 2 (get_or i 11 0); lockdsfid = bit 3 (get_or i 11 0); field = false; state = Ready; round = None; held = None };
+  vault = record { areas = areas_in i; lock0 = bit 0 (get_or i 11 0); lock1 = bit 1 (get_or i 11 0); lockcfg = bit 4 (get_or i 11 0); keys = record { passwords = passwords_in i; session = None } };
 }
 
 -- ---- header rules, in the order of the bytes
@@ -83,6 +81,6 @@ image_of t m = header_of (length m) t ++ m
 -- "A factory tag has zero memory, passwords, locks, AFI, DSFID and RFAiSS, and all ends at E."
 unfoldable pub factory : ℕ → ℕ → Tag
 factory e uid = record {
-  front = record { uid = uid; afi = 0; dsfid = 0; lockafi = false; lockdsfid = false; field = false; state = Ready; round = round.None; held = held.None };
-  vault = record { areas = record { rfa1ss = 0; enda1 = e; rfa2ss = 0; enda2 = e; rfa3ss = 0; enda3 = e; rfa4ss = 0 }; lock0 = false; lock1 = false; lockcfg = false; keys = record { passwords = 0 ∷ 0 ∷ 0 ∷ 0 ∷ []; session = session.None } };
+  front = record { uid = uid; afi = 0; dsfid = 0; lockafi = false; lockdsfid = false; field = false; state = Ready; round = None; held = None };
+  vault = record { areas = record { rfa1ss = 0; enda1 = e; rfa2ss = 0; enda2 = e; rfa3ss = 0; enda3 = e; rfa4ss = 0 }; lock0 = false; lock1 = false; lockcfg = false; keys = record { passwords = 0 ∷ 0 ∷ 0 ∷ 0 ∷ []; session = None } };
 }

@@ -1,10 +1,9 @@
 -- "Inventory": its fields, one slot and sixteen, the round, and the end of a frame.
 -- Assumes nothing.
-use Rattle.std.specs.Prelude.{ℕ, ◌+◌, ◌-◌, ◌/◌, ◌%◌, ◌^◌, Bool, not, ◌&&◌, ◌||◌, List, ◌∷◌, get_or, ltb, eqb, if◌then◌else◌}
+use Rattle.std.specs.Prelude.{ℕ, ◌+◌, ◌-◌, ◌/◌, ◌%◌, ◌^◌, Bool, not, ◌&&◌, ◌||◌, List, ◌∷◌, get_or, ltb, eqb, if◌then◌else◌, None}
 use Rattle.put.specs.Number.{number_at, bytes_of}
 use Rattle.record.specs.declared.Front.{Front}
-use Rattle.record.specs.declared.Round.TheVariants as round
-use Rattle.record.specs.Update.{with_round}
+use Rattle.record.specs.Update.{with_round, running}
 use Rattle.record.specs.Tests.{is_quiet}
 use Rattle.tag.specs.Frame.{flag_bit, end_of, fields_from}
 use Rattle.tag.specs.Work.{Answer, silence, body, Work, work, says}
@@ -93,11 +92,11 @@ unfoldable pub inventory_of : Front → List ℕ → Work
 inventory_of t f =
     if unheard t f then work t (says silence) else
     if one_slot f then work t (says (inventory_answer t)) else
-    work (with_round t (round.Open 0 (mask_length f))) (says (in_slot t 0 (mask_length f)))
+    work (with_round t (running 0 (mask_length f))) (says (in_slot t 0 (mask_length f)))
 
 -- "each end of frame moves one slot on; an end of frame in slot 15 closes the round"
 unfoldable pub next_slot : Front → ℕ → ℕ → Work
 next_slot t slot mask =
     if ltb slot 15
-    then work (with_round t (round.Open (slot + 1) mask)) (says (in_slot t (slot + 1) mask))
-    else work (with_round t round.None) (says silence)
+    then work (with_round t (running (slot + 1) mask)) (says (in_slot t (slot + 1) mask))
+    else work (with_round t None) (says silence)

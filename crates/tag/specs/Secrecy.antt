@@ -2,8 +2,8 @@
 -- 3 alone; of events and of host calls. Demand3 says both in facts, and is proved from this. A tag is its record, t or u, with its memory, m
 -- or o. Words in quotation marks are the demand's.
 -- Assumes nothing.
-use Rattle.std.specs.Prelude.{ℕ, ◌/◌, ◌≡◌, Bool, true, false, not, ◌&&◌, ◌||◌, List, [], ◌∷◌, length, get_or, eqb, if◌then◌else◌}
-use Rattle.std.proofs.Math.Option.{Option, none, some}
+use Rattle.std.specs.Prelude.{ℕ, ◌/◌, ◌≡◌, Bool, true, false, not, ◌&&◌, ◌||◌, List, [], ◌∷◌, length, get_or, eqb, if◌then◌else◌, Option, Some, None}
+use Rattle.std.specs.Result.{result_err}
 use Rattle.rights.specs.declared.Areas.{Areas}
 use Rattle.rights.specs.declared.Keys.{Keys}
 use Rattle.rights.specs.declared.Session.{Session}
@@ -12,11 +12,10 @@ use Rattle.rights.specs.Vault.{view_of}
 use Rattle.rights.specs.Passwords.{is_open, password_of}
 use Rattle.rights.specs.Blocks.{hidden_by}
 use Rattle.record.specs.declared.Tag.{Tag}
-use Rattle.record.specs.declared.Outcome.{Outcome}
 use Rattle.tag.specs.Rules.{blocks_of}
 use Rattle.tag.specs.Work.{Act, says, lists, presents, writes, closes}
 use Rattle.tag.specs.Step.{Event, work_of, step, run}
-use Rattle.tag.specs.Host.{number_of, EventGiven, event_given, EventGives}
+use Rattle.tag.specs.Host.{number_of, Reply, length_in, tag_after, EventGiven, event_given, EventGives}
 use Rattle.tag.specs.Demand3.{Claim, Call, served}
 
 -- ---- "bytes of Areas 2 to 4 that only that password makes readable"
@@ -48,17 +47,17 @@ abbrev pub guards : (ℕ → Bool) → ℕ → Bool
 guards chosen n = chosen n || eqb n 0
 
 -- the session of none of them is open. Alike tags have one session, so what is said of one is said of both
-pub record Shut (chosen : ℕ → Bool) (s : Session) : Type 0 where
+pub record Shut (chosen : ℕ → Bool) (s : Option Session) : Type 0 where
   pub closed : (n : ℕ) → guards chosen n ≡ true → is_open s n ≡ false
 
 -- ---- "neither tag's chosen password nor its configuration password is presented under its number"
 
 abbrev pub claim_of : Act → Option Claim
-claim_of (says a) = none
-claim_of (lists limit first count status) = none
-claim_of (presents n w) = some (record { number = n; value = w })
-claim_of (writes us) = none
-claim_of closes = none
+claim_of (says a) = None
+claim_of (lists limit first count status) = None
+claim_of (presents n w) = Some (record { number = n; value = w })
+claim_of (writes us) = None
+claim_of closes = None
 
 -- an event presents to a tag what the tag's step on that event goes by: by the law presented_means, just what `PresentedBy` of Demand3 says
 unfoldable pub presented : Tag → List ℕ → Event → Option Claim
@@ -66,8 +65,8 @@ presented t m e = claim_of (work_of t.front (view_of t.vault) (blocks_of m) e).a
 
 -- what is presented is the tag's password of that number, and one of those that guard
 abbrev pub opens : (ℕ → Bool) → Keys → Option Claim → Bool
-opens chosen k none = false
-opens chosen k (some c) = guards chosen c.number && eqb (password_of k c.number) c.value
+opens chosen k None = false
+opens chosen k (Some c) = guards chosen c.number && eqb (password_of k c.number) c.value
 
 -- no event of a list presents such a password, along the tag's own run: each event to the tag as it then is, which by `Kept` has the
 -- passwords of its start. A wrong value, another number, or a frame that the tag ignores may come
@@ -120,7 +119,7 @@ only p n = eqb n p
 
 -- a call that is refused presents nothing
 abbrev pub unrefused : ℕ → Option Claim → Option Claim
-unrefused number c = if eqb number 0 then c else none
+unrefused number c = if eqb number 0 then c else None
 
 -- after a call on each tag: number, length and every byte of the room
 pub record SameCall (chosen : ℕ → Bool) (t u : Tag) (m o : List ℕ) (g h : EventGiven) : Type 0 where
@@ -132,20 +131,20 @@ pub record SameCall (chosen : ℕ → Bool) (t u : Tag) (m o : List ℕ) (g h : 
   pub kept' : Kept chosen u.vault o h.tag.vault h.memory
 
 -- what a call has given that returns r and leaves the memory m and the room x
-abbrev pub given_by : Outcome → List ℕ → List ℕ → EventGiven
-given_by r m x = record { number = number_of r.refusal; length = r.length; tag = r.tag; memory = m; room = x }
+abbrev pub given_by : Tag → Reply → List ℕ → List ℕ → EventGiven
+given_by t r m x = record { number = number_of (result_err r); length = length_in r; tag = tag_after t r; memory = m; room = x }
 
 -- for any record, memory and room: a call on each tag with the same event, and the same room x at entry
 abbrev pub CallSecrecy : (ℕ → Bool) → Type 0
 CallSecrecy chosen =
-    (t u : Tag) (m o : List ℕ) (e : Event) (x : List ℕ) (r s : Outcome) (m' o' x' y' : List ℕ)
+    (t u : Tag) (m o : List ℕ) (e : Event) (x : List ℕ) (r s : Reply) (m' o' x' y' : List ℕ)
     → Alike chosen t u m o
     → Shut chosen t.vault.keys.session
-    → opens chosen t.vault.keys (unrefused (number_of r.refusal) (presented t m e)) ≡ false
-    → opens chosen u.vault.keys (unrefused (number_of s.refusal) (presented u o e)) ≡ false
+    → opens chosen t.vault.keys (unrefused (number_of (result_err r)) (presented t m e)) ≡ false
+    → opens chosen u.vault.keys (unrefused (number_of (result_err s)) (presented u o e)) ≡ false
     → EventGives t e m x m' x' r
     → EventGives u e o x o' y' s
-    → SameCall chosen t u m o (given_by r m' x') (given_by s o' y')
+    → SameCall chosen t u m o (given_by t r m' x') (given_by u s o' y')
 
 -- ---- and of any number of them, refused ones among them
 

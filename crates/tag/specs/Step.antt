@@ -1,17 +1,14 @@
 -- Events: what each comes to, and the answer that is sent.
 -- Assumes nothing.
-use Rattle.std.specs.Prelude.{ℕ, Bool, true, false, List, [], ◌∷◌, ◌++◌, if◌then◌else◌}
+use Rattle.std.specs.Prelude.{ℕ, Bool, true, false, List, [], ◌∷◌, ◌++◌, if◌then◌else◌, Option, Some, None, Ok, Err}
 use Rattle.crc.specs.Crc.{crc_bytes}
+use Rattle.rights.specs.Verdict.{Verdict}
 use Rattle.rights.specs.declared.View.{View}
-use Rattle.rights.specs.declared.Verdict.TheVariants.{Success, Error}
 use Rattle.rights.specs.Vault.{view_of}
 use Rattle.record.specs.declared.Front.{Front}
 use Rattle.record.specs.declared.Tag.{Tag}
 use Rattle.record.specs.declared.State.TheVariants.{Ready}
 use Rattle.record.specs.declared.Round.{Round}
-use Rattle.record.specs.declared.Round.TheVariants as round
-use Rattle.record.specs.declared.Held.{Held}
-use Rattle.record.specs.declared.Held.TheVariants as held
 use Rattle.record.specs.declared.Kind.{Kind}
 use Rattle.record.specs.declared.Kind.TheVariants as kind
 use Rattle.record.specs.Update.{with_state, with_round, with_held, with_front, passing_cleared}
@@ -38,7 +35,7 @@ event_of kind.Request f = request f
 
 -- "any frame first drops a round and a held answer"
 abbrev pub dropped : Front → Front
-dropped t = with_held (with_round t round.None) held.None
+dropped t = with_held (with_round t None) None
 
 abbrev pub work_heard : Heard → Front → View → ℕ → List ℕ → Work
 work_heard heard.Silence t v blocks f = work t (says silence)
@@ -54,13 +51,13 @@ frame_of t v blocks f = work_heard (heard_of t f) t v blocks f
 
 -- "holds the answer .. until an end of frame gives it out", once; "each end of frame moves one slot on"; "An end of frame with neither round nor
 -- held answer does nothing."
-abbrev pub round_ends : Round → Front → Work
-round_ends round.None t = work t (says silence)
-round_ends (round.Open slot mask) t = next_slot t slot mask
+abbrev pub round_ends : Option Round → Front → Work
+round_ends None t = work t (says silence)
+round_ends (Some o) t = next_slot t o.slot o.mask
 
-abbrev pub frame_ends : Held → Front → Work
-frame_ends held.None t = round_ends t.round t
-frame_ends (held.Answer v) t = work (with_held t held.None) (says (verdict v))
+abbrev pub frame_ends : Option Verdict → Front → Work
+frame_ends None t = round_ends t.round t
+frame_ends (Some v) t = work (with_held t None) (says (verdict v))
 
 -- ---- any event
 
@@ -78,8 +75,8 @@ sealed s = s ++ crc_bytes s
 
 abbrev pub line_of : Answer → List ℕ
 line_of silence = []
-line_of (verdict Success) = sealed (0x00 ∷ [])
-line_of (verdict (Error c)) = sealed (0x01 ∷ c ∷ [])
+line_of (verdict (Ok tt)) = sealed (0x00 ∷ [])
+line_of (verdict (Err c)) = sealed (0x01 ∷ c ∷ [])
 line_of (body b) = sealed (0x00 ∷ b)
 
 -- what an event gives: the bytes of the answer, none for silence, and record and memory after it
@@ -90,7 +87,7 @@ pub record Stepped : Type 0 where
 
 -- a verdict is held, or answered at once; a command whose answer is held gives a verdict, and never silence or a body: the law held_verdict
 abbrev pub settled : Bool → Answer → Tag → List ℕ → Stepped
-settled true (verdict v) t m = record { answer = []; tag = with_front t (with_held t.front (held.Answer v)); memory = m }
+settled true (verdict v) t m = record { answer = []; tag = with_front t (with_held t.front (Some v)); memory = m }
 settled true silence t m = record { answer = []; tag = t; memory = m }
 settled true (body b) t m = record { answer = line_of (body b); tag = t; memory = m }
 settled false a t m = record { answer = line_of a; tag = t; memory = m }

@@ -1,12 +1,11 @@
 -- What a command comes to: it is decided from all of the record but the passwords, and without the memory, and done through one gate,
 -- `perform`, by which alone a command reaches passwords or memory.
 -- Assumes nothing.
-use Rattle.std.specs.Prelude.{ℕ, suc, zero, ◌+◌, ◌*◌, Bool, true, false, ◌&&◌, List, [], ◌∷◌, ◌++◌, take, drop, ltb, if◌then◌else◌}
+use Rattle.std.specs.Prelude.{ℕ, suc, zero, ◌+◌, ◌*◌, Bool, true, false, ◌&&◌, List, [], ◌∷◌, ◌++◌, take, drop, ltb, if◌then◌else◌, Ok, Err}
 use Rattle.std.proofs.lemmas.List.Edits.{sets}
 use Rattle.rights.specs.declared.Vault.{Vault}
 use Rattle.rights.specs.declared.View.{View}
-use Rattle.rights.specs.declared.Verdict.{Verdict}
-use Rattle.rights.specs.declared.Verdict.TheVariants.{Success, Error}
+use Rattle.rights.specs.Verdict.{Verdict}
 use Rattle.rights.specs.Vault.{view_of}
 use Rattle.rights.specs.Passwords.{with_password, present_of}
 use Rattle.rights.specs.Blocks.{readable_at, status_at}
@@ -22,7 +21,7 @@ pub data Answer : Type 0 where
   body : List ℕ → Answer
 
 abbrev pub error : ℕ → Answer
-error c = verdict (Error c)
+error c = verdict (Err c)
 
 -- what is written, one after the other: a block, a register, the AFI or DSFID byte, a lock bit, a whole password. Of the two blocks that
 -- have a lock bit, `block_lock true` is block 1 and `block_lock false` block 0
@@ -121,5 +120,5 @@ perform t m (lists limit first count status) =
 perform t m (presents n w) =
     let p = present_of t.vault.keys n w in
     record { answer = verdict p.answer; tag = with_vault t (with_keys t.vault p.keys); memory = m }
-perform t m (writes us) = record { answer = verdict Success; tag = apply_to_tag us t; memory = apply_to_memory us m }
+perform t m (writes us) = record { answer = verdict (Ok tt); tag = apply_to_tag us t; memory = apply_to_memory us m }
 perform t m closes = record { answer = silence; tag = with_vault t (sessionless t.vault); memory = m }

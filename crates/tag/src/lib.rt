@@ -3,7 +3,7 @@
 #![tactic(auto)]
 
 // The work that a command asks for.
-#[derive(Clone, Copy)]
+#[derive(Clone, Copy, Debug, PartialEq, Eq)]
 pub enum Command {
     StayQuiet,
     Read,
@@ -24,14 +24,14 @@ pub enum Command {
 }
 
 // How many bytes a command's fields have: a number, or a number and four for each block that is written.
-#[derive(Clone, Copy)]
+#[derive(Clone, Copy, Debug, PartialEq, Eq)]
 pub enum Length {
     Fixed(u8),
     PerBlock(u8),
 }
 
 // What a command does with Option_flag: error 03h, its own use of it, or hold the answer.
-#[derive(Clone, Copy)]
+#[derive(Clone, Copy, Debug, PartialEq, Eq)]
 pub enum OptionRule {
     Refused,
     Taken,
@@ -39,7 +39,7 @@ pub enum OptionRule {
 }
 
 // A row of the command table. Block numbers, and counts, have two bytes where the command is wide; a count is there where it is many.
-#[derive(Clone, Copy)]
+#[derive(Clone, Copy, Debug, PartialEq, Eq)]
 pub struct Entry {
     pub command: Command,
     pub wide: bool,

@@ -2,116 +2,59 @@
 // to `lines`, and each output line is written when its input line is complete.
 #![tactic(auto)]
 
-ghost use Rattle.std.specs.Prelude.{◌≤◌, length};
-
 use lines::Progress;
-use std::io::Read;
+use std::io;
 
-// How far a run is, and whether every read and write went well.
-#[derive(Clone, Copy)]
-struct Course {
+// How far a session is, its tag's memory, and what `lines` answers in.
+#[derive(Drop)]
+struct Session {
     progress: Progress,
-    well: bool,
+    memory: [u8; 2048],
+    room: [u8; 10243],
+    out: [u8; 20508],
 }
 
-// The first n bytes of out are written, and it answers whether they were.
-fn show(rt: &impl Print, out: &[u8], n: usize) -> bool
-    requires { n ≤ length out.now }
-{
-    rt.write_all(&out[..n]).is_ok()
-}
-
-// A piece of the input, to its end or to a write that fails.
-fn piece(
-    rt: &impl Print,
-    start: Progress,
-    bytes: &[u8],
-    memory: &mut [u8; 2048],
-    room: &mut [u8; 10243],
-    out: &mut [u8; 20508],
-) -> Course {
-    let mut progress = start;
-    let mut i = 0;
-    while i < bytes.len() {
-        let f = lines::feed(progress, bytes[i], memory, room, out);
-        progress = f.progress;
-        if !show(rt, out, f.length) {
-            return Course {
-                progress,
-                well: false,
-            };
+impl Session {
+    fn new() -> Session {
+        let mut memory = [0u8; 2048];
+        let progress = lines::start(&mut memory);
+        Session {
+            progress,
+            memory,
+            room: [0; 10243],
+            out: [0; 20508],
         }
-        i += 1;
     }
-    Course {
-        progress,
-        well: true,
-    }
-}
 
-// The input to its end, or to a read or write that fails. A proved loop has to end, so it has as many turns as no run takes.
-fn run(
-    rt: &impl Print,
-    input: &mut impl Read,
-    start: Progress,
-    memory: &mut [u8; 2048],
-    room: &mut [u8; 10243],
-    out: &mut [u8; 20508],
-) -> Course {
-    let mut progress = start;
-    let mut buffer = [0u8; 4096];
-    for _ in 0..u64::MAX {
-        let Ok(n) = input.read(&mut buffer) else {
-            return Course {
-                progress,
-                well: false,
-            };
-        };
-        if n == 0 {
-            return Course {
-                progress,
-                well: true,
-            };
-        }
-        let c = piece(rt, progress, &buffer[..n], memory, room, out);
-        if !c.well {
-            return c;
-        }
-        progress = c.progress;
+    fn feed(&mut self, rt: &impl Print, byte: u8) -> io::Result<()> {
+        let fed = lines::feed(
+            self.progress,
+            byte,
+            &mut self.memory,
+            &mut self.room,
+            &mut self.out,
+        );
+        self.progress = fed.progress;
+        rt.write_all(&self.out[..fed.length])
     }
-    Course {
-        progress,
-        well: false,
-    }
-}
 
-// A last line may lack its newline.
-fn last(
-    rt: &impl Print,
-    p: Progress,
-    memory: &mut [u8; 2048],
-    room: &mut [u8; 10243],
-    out: &mut [u8; 20508],
-) {
-    let f = lines::finish(p, memory, room, out);
-    show(rt, out, f.length);
+    // A last line may lack its newline.
+    fn finish(&mut self, rt: &impl Print) -> io::Result<()> {
+        let fed = lines::finish(
+            self.progress,
+            &mut self.memory,
+            &mut self.room,
+            &mut self.out,
+        );
+        self.progress = fed.progress;
+        rt.write_all(&self.out[..fed.length])
+    }
 }
 
 // After a read or write that failed nothing more is read or written.
 fn main(rt: HostRuntime) {
-    let mut memory = [0u8; 2048];
-    let mut room = [0u8; 10243];
-    let mut out = [0u8; 20508];
-    let start = lines::start(&mut memory);
-    let c = run(
-        &rt,
-        &mut rt.stdin(),
-        start,
-        &mut memory,
-        &mut room,
-        &mut out,
-    );
-    if c.well {
-        last(&rt, c.progress, &mut memory, &mut room, &mut out);
+    let mut session = Session::new();
+    if pieces::each_byte(&mut rt.stdin(), |byte| session.feed(&rt, byte)).is_ok() {
+        let _ = session.finish(&rt);
     }
 }

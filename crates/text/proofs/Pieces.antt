@@ -1,6 +1,6 @@
 -- A text that is written piece by piece.
 -- Assumes nothing.
-use mathlib.Core.Path.{◌≡◌, refl}
+use mathlib.Core.Path.{◌≡◌, refl, ◌∙◌}
 use mathlib.Core.List.{List, [], ◌∷◌, ◌++◌}
 use Prim.Native.Nat.{ℕ, ◌+◌, ◌≤◌, ◌<◌}
 use native.Mathlib.Omega.{arith}
@@ -35,8 +35,13 @@ pub put_one : (out : List ℕ) (x : ℕ) → 0 < length out → Put (x ∷ []) o
 put_one [] x h = absurd (omega arith)
 put_one (y ∷ ys) x h = record { count = refl; is = refl }
 
-pub put_last : {v out₀ out : List ℕ} {at : ℕ} (x : ℕ) → Put v out₀ out at → length (v ++ (x ∷ [])) ≤ length out₀ → Put (v ++ (x ∷ [])) out₀ (set out at x) (at + 1)
+pub put_last : {v out₀ out : List ℕ} {at : ℕ} (x : ℕ) → Put v out₀ out at → length (v ++ (x ∷ [])) ≤ length out₀
+    → Put (v ++ (x ∷ [])) out₀ (set out at x) (at + 1)
 put_last x p h = whole (store x (one_next (begun (x ∷ []) p h)))
+
+-- what stands at the start, before what stood there, was put
+pub put_front : {L was out : List ℕ} {n : ℕ} → n ≡ length L → out ≡ L ++ drop n was → Put L was out n
+put_front h e = record { count = h; is = e ∙ rw h }
 
 -- what was put at the start is what stands there
 pub put_there : {v out₀ out : List ℕ} {at : ℕ} → Put v out₀ out at → take at out ≡ v

@@ -1,21 +1,24 @@
--- Texts, from a place on: one byte or digit more, and the end. The proofs of loops cite these laws.
+-- Texts: the definitions in the library's words, what one byte or digit more adds, and the whole. The proofs of the functions cite these laws.
 -- Assumes nothing.
 use mathlib.Core.Path.{◌≡◌, refl, sym, ap, ◌∙◌}
 use mathlib.Core.Logic.{◌⊎◌, inl, inr, ⊎_elim}
 use mathlib.Core.Bool.{Bool, true, false, and-false, and-eq-true_iff}
-use mathlib.Core.List.{List, [], ◌∷◌, ◌++◌}
-use Prim.Native.Nat.{ℕ, zero, suc, ◌+◌, ◌-◌, ◌*◌, ◌/◌, ◌%◌, ◌^◌, ◌≤◌, ◌<◌}
-use native.Mathlib.Nat.{pow-succ'}
-use native.Mathlib.Numerals.{add-one}
+use mathlib.Core.List.{List, [], ◌∷◌, ◌++◌, append_assoc}
+use Prim.Native.Nat.{ℕ, zero, suc, ◌+◌, ◌*◌, ◌/◌, ◌%◌, ◌^◌, ◌≤◌, ◌<◌}
+use native.Mathlib.Nat.{pow-succ', add-zero}
 use native.Mathlib.Omega.{arith}
-use lib.ListN.{length, get_or, drop, set, drop_of_length-le, length-append, length-drop}
-use lib.Seq.{drop-cons}
-use lib.Dec.{leb, ltb}
-use borrow.Author.Tests.{eq-eqb, ne_eqb, leb-true, lt-ltb, le-ltb, ltb-true, ltb-false}
+use lib.ListN.{length, get_or, take, drop, set, length-append, length-drop}
+use lib.Seq.{length-take-le}
+use Rattle.std.proofs.lemmas.List.{take_more, get_or-take, get_or-drop}
+use Rattle.std.specs.Simd.{first_chunks}
+use lib.Dec.{leb, ltb, eqb}
+use lib.Pointwise.{pointwise}
+use borrow.Author.Tests.{ne_eqb, leb-true, lt-ltb, le-ltb, ltb-true, ltb-false}
 use Rattle.put.specs.Put.{Put}
-use Rattle.put.proofs.Written.{Written, Next, whole}
+use Rattle.put.proofs.Lists.{byte_more, chunk_at}
 use Rattle.text.proofs.Pieces.{put_one, put_last}
-use Rattle.text.specs.Text.{same, hex_digit, hex_of, hex_or, is_figure, is_letter, is_digit, all_digits, value_of, bytes_in, decimal, decimal_of}
+use Rattle.std.specs.List.{list_all}
+use Rattle.text.specs.Text.{hex_digit, hex_of, hex_or, is_figure, is_letter, is_digit, all_digits, value_of, bytes_in, decimal, decimal_of}
 
 pub less_or_not : (a b : ℕ) → (a < b) ⊎ (b ≤ a)
 less_or_not a b = go (ltb a b) refl
@@ -24,45 +27,13 @@ less_or_not a b = go (ltb a b) refl
     go true e = inl (ltb-true a b e)
     go false e = inr (ltb-false a b e)
 
-next : (i : ℕ) (s : List ℕ) → i < length s → drop i s ≡ get_or s i 0 ∷ drop (i + 1) s
-next i s h = rw (add-one, drop-cons s i 0 h)
-
--- ---- two texts
-
-pub unlike : (a b : List ℕ) → (length a ≡ length b → ⊥) → same a b ≡ false
-unfolding same
-unlike [] [] n = absurd (n refl)
-unlike [] (y ∷ ys) n = refl
-unlike (x ∷ xs) [] n = refl
-unlike (x ∷ xs) (y ∷ ys) n = rw (unlike xs ys (λ e. n (ap suc e)), and-false)
-
-module _ (i : ℕ) (a b : List ℕ) (h : i < length a) (k : i < length b) where
-  pub differs : (get_or a i 0 ≡ get_or b i 0 → ⊥) → same (drop i a) (drop i b) ≡ false
-  unfolding same
-  differs n = rw (next i a h, next i b k, ne_eqb _ _ n)
-
-  pub agrees : get_or a i 0 ≡ get_or b i 0 → same (drop i a) (drop i b) ≡ same (drop (i + 1) a) (drop (i + 1) b)
-  unfolding same
-  agrees e = rw (next i a h, next i b k, eq-eqb _ _ e)
-
-pub compared : (i : ℕ) (a b : List ℕ) → length a ≤ i → length b ≤ i → same (drop i a) (drop i b) ≡ true
-unfolding same
-compared i a b h k = rw (drop_of_length-le a h, drop_of_length-le b k)
-
 -- ---- digits
 
-module _ (i : ℕ) (s : List ℕ) where
-  pub no_digit : i < length s → is_digit (get_or s i 0) ≡ false → all_digits (drop i s) ≡ false
-  unfolding all_digits
-  no_digit h e = rw (next i s h, e)
-
-  pub a_digit : i < length s → is_digit (get_or s i 0) ≡ true → all_digits (drop i s) ≡ all_digits (drop (i + 1) s)
-  unfolding all_digits
-  a_digit h e = rw (next i s h, e)
-
-  pub no_more : length s ≤ i → all_digits (drop i s) ≡ true
-  unfolding all_digits
-  no_more h = rw (drop_of_length-le s h)
+-- the library's test of all elements
+pub all_as_list : (s : List ℕ) → all_digits s ≡ list_all (λ d. is_digit d) s
+unfolding all_digits
+all_as_list [] = refl
+all_as_list (d ∷ s) = rw (all_as_list s)
 
 pub figure_range : (d : ℕ) → is_figure d ≡ true → (0x30 ≤ d) × (d ≤ 0x39)
 figure_range d h =
@@ -91,22 +62,44 @@ bytes_length [] = omega arith
 bytes_length (h ∷ []) = omega arith
 bytes_length (h ∷ l ∷ s) = omega (arith, bytes_length s)
 
-no_pair : (s : List ℕ) → length s ≤ 1 → bytes_in s ≡ []
+-- half as many bytes as digits
+pub bytes_count : (s : List ℕ) → length (bytes_in s) ≡ length s / 2
 unfolding bytes_in
-no_pair [] e = refl
-no_pair (h ∷ []) e = refl
-no_pair (h ∷ l ∷ s) e = absurd (omega arith)
+bytes_count [] = refl
+bytes_count (h ∷ []) = refl
+bytes_count (h ∷ l ∷ s) = omega (arith, bytes_count s)
 
-module _ {L out₀ out : List ℕ} {at : ℕ} (i : ℕ) (s : List ℕ) (w : Written L (bytes_in (drop i s)) out₀ out at) where
-  pub pair : 1 < length s - i → Next L ((16 * value_of (get_or s i 0) + value_of (get_or s (i + 1) 0)) ∷ []) (bytes_in (drop (i + 2) s)) out₀ out at
-  unfolding bytes_in
-  pair h =
-      let e : i + 2 ≡ i + 1 + 1 = omega arith in
-      record { written = rw e (rw (next i s (omega arith), next (i + 1) s (omega arith)) at w) }
+-- one pair more
+pub pair_more : (i : ℕ) (s : List ℕ) → 2 * i + 1 < length s
+    → bytes_in (take (2 * (i + 1)) s) ≡ bytes_in (take (2 * i) s) ++ ((16 * value_of (get_or s (2 * i) 0) + value_of (get_or s (2 * i + 1) 0)) ∷ [])
+unfolding bytes_in
+pair_more i [] h = absurd (omega arith)
+pair_more i (x ∷ []) h = absurd (omega arith)
+pair_more zero (x ∷ y ∷ s) h = refl
+pair_more (suc i) (x ∷ y ∷ s) h =
+    let more : 2 * (suc i + 1) ≡ suc (suc (2 * (i + 1))) = omega arith in
+    let low : 2 * suc i + 1 ≡ suc (suc (2 * i + 1)) = omega arith in
+    let high : 2 * suc i ≡ suc (suc (2 * i)) = omega arith in
+    rw (more, low, high, pair_more i s (omega arith))
 
-  pub pairs_end : length s - i ≤ 1 → Put L out₀ out at
-  unfolding bytes_in
-  pairs_end h = whole (rw (no_pair (drop i s) (simp length-drop h)) at w)
+-- all of them: an odd digit at the end counts for nothing
+pub all_pairs : (s : List ℕ) → bytes_in (take (2 * (length s / 2)) s) ≡ bytes_in s
+unfolding bytes_in
+all_pairs [] = refl
+all_pairs (x ∷ []) = refl
+all_pairs (x ∷ y ∷ s) = let e : 2 * (length (x ∷ y ∷ s) / 2) ≡ suc (suc (2 * (length s / 2))) = omega arith in rw (e, all_pairs s)
+
+-- the byte of a pair, as the library cuts the pairs out, stored behind those before it
+pub pair_put : (i : ℕ) (s was : List ℕ) → i < length s / 2 → i < length was → let pair = get_or (first_chunks 2 (length s / 2) s) i [] in
+    set (bytes_in (take (2 * i) s) ++ drop i was) i (16 * value_of (get_or pair 0 0) + value_of (get_or pair 1 0))
+    ≡ bytes_in (take (2 * (i + 1)) s) ++ drop (i + 1) was
+pair_put i s was h room =
+    let pair = get_or (first_chunks 2 (length s / 2) s) i [] in
+    let cut : pair ≡ take 2 (drop (2 * i) s) = chunk_at 2 (length s / 2) i s h in
+    let high : get_or pair 0 0 ≡ get_or s (2 * i) 0 = rw (cut, get_or-take 2 (drop (2 * i) s) 0 0 (omega arith), get_or-drop, add-zero) in
+    let low : get_or pair 1 0 ≡ get_or s (2 * i + 1) 0 = rw (cut, get_or-take 2 (drop (2 * i) s) 1 0 (omega arith), get_or-drop) in
+    let size : length (bytes_in (take (2 * i) s)) ≡ i = bytes_count (take (2 * i) s) ∙ rw (length-take-le (2 * i) s (omega arith)) (omega arith) in
+    rw (high, low, byte_more (bytes_in (take (2 * i) s)) was i _ size room, pair_more i s (omega arith))
 
 -- ---- bytes in hex
 
@@ -121,14 +114,27 @@ unfolding hex_or
 hex_or_most mark [] n one h = omega arith
 hex_or_most mark (b ∷ s) n one h = rw (ne_eqb (length (b ∷ s)) 0 (λ e. omega arith)) (omega (arith, hex_length (b ∷ s)))
 
-module _ {L out₀ out : List ℕ} {at : ℕ} (i : ℕ) (s : List ℕ) (w : Written L (hex_of (drop i s)) out₀ out at) where
-  pub high : i < length s → Next L (hex_digit (get_or s i 0 / 16) ∷ []) (hex_digit (get_or s i 0 % 16) ∷ hex_of (drop (i + 1) s)) out₀ out at
-  unfolding hex_of
-  high h = record { written = rw (next i s h) at w }
+-- of two lists of bytes
+hex_append : (s t : List ℕ) → hex_of (s ++ t) ≡ hex_of s ++ hex_of t
+unfolding hex_of
+hex_append [] t = refl
+hex_append (b ∷ s) t = rw (hex_append s t)
 
-  pub hex_end : length s ≤ i → Put L out₀ out at
-  unfolding hex_of
-  hex_end h = whole (rw (drop_of_length-le s h) at w)
+-- one byte more, whose two digits are stored one after the other
+pub hex_more : (i : ℕ) (s was : List ℕ) → i < length s → 2 * length s ≤ length was
+    → set (set (hex_of (take i s) ++ drop (2 * i) was) (2 * i) (hex_digit (get_or s i 0 / 16))) (2 * i + 1) (hex_digit (get_or s i 0 % 16))
+    ≡ hex_of (take (i + 1) s) ++ drop (2 * (i + 1)) was
+unfolding hex_of
+hex_more i s was h room =
+    let done = hex_of (take i s) in
+    let high = hex_digit (get_or s i 0 / 16) in
+    let low = hex_digit (get_or s i 0 % 16) in
+    let size : length done ≡ 2 * i = hex_length (take i s) ∙ rw (length-take-le i s (omega arith)) in
+    let next : 2 * (i + 1) ≡ 2 * i + 1 + 1 = omega arith in
+    let more : hex_of (take (i + 1) s) ≡ (done ++ (high ∷ [])) ++ (low ∷ []) = rw (take_more s i 0 h, hex_append, append_assoc) in
+    let first = byte_more done was (2 * i) high size (omega arith) in
+    let second = byte_more (done ++ (high ∷ [])) was (2 * i + 1) low (simp length-append (omega arith)) (omega arith) in
+    rw (first, second, more, next)
 
 -- ---- decimal digits
 
@@ -159,7 +165,10 @@ enough zero n h = one_digit 1 n h ∙ sym (one_digit 0 n h)
 enough (suc k) n h =
     ⊎_elim
     (λ l. one_digit (suc (suc k)) n l ∙ sym (one_digit (suc k) n l))
-    (λ g. more_digits (suc k) n g ∙ ap (λ (ds : List ℕ). ds ++ ((0x30 + n % 10) ∷ [])) (enough k (n / 10) (tenth n (10 ^ (k + 1)) (let e : suc k + 1 ≡ suc (k + 1) = omega arith in rw (e, pow-succ') at h))) ∙ sym (more_digits k n g))
+    (λ g.
+    let e : suc k + 1 ≡ suc (k + 1) = omega arith in
+    let fewer = enough k (n / 10) (tenth n (10 ^ (k + 1)) (rw (e, pow-succ') at h)) in
+    more_digits (suc k) n g ∙ ap (λ (ds : List ℕ). ds ++ ((0x30 + n % 10) ∷ [])) fewer ∙ sym (more_digits k n g))
     (less_or_not n 10)
 
 -- a number of 64 bits, written where it has room: its one digit, or its last one after those of a tenth

@@ -9,13 +9,6 @@ unfoldable pub bytes_of_text : String → List ℕ
 bytes_of_text end = []
 bytes_of_text (c before s) = code c ∷ bytes_of_text s
 
--- two texts are the same, byte by byte
-unfoldable pub same : List ℕ → List ℕ → Bool
-same [] [] = true
-same [] (y ∷ ys) = false
-same (x ∷ xs) [] = false
-same (x ∷ xs) (y ∷ ys) = eqb x y && same xs ys
-
 -- ---- hex in upper case: 0 to 9 are 30h to 39h, A to F are 41h to 46h
 
 abbrev pub hex_digit : ℕ → ℕ

@@ -1,119 +1,88 @@
-// Bytes as text: two texts compared, bytes in hex and back, numbers in decimal. It knows no tag.
+// Bytes as text: bytes in hex and back, numbers in decimal. It knows no tag.
 #![tactic(auto)]
 
 ghost use Rattle.std.specs.Prelude.{◌≡◌, ◌≤◌, ◌<◌, length};
 ghost use Rattle.put.specs.Put.{Put};
-ghost use Rattle.text.specs.Text.{same, hex_digit, hex_of, hex_or, is_figure, is_letter, is_digit, all_digits, value_of, bytes_in, decimal_of};
-
-// Two texts are the same, byte by byte.
-pub fn is_same(a: &[u8], b: &[u8]) -> bool
-    ensures { result ≡ same a.now b.now }
-{
-    if a.len() != b.len() {
-        return false;
-    }
-    let mut i = 0;
-    while i < a.len() {
-        if a[i] != b[i] {
-            return false;
-        }
-        i += 1;
-    }
-    true
-}
+ghost use Rattle.text.specs.Text.{hex_digit, hex_of, hex_or, is_figure, is_letter, is_digit, all_digits, value_of, bytes_in, decimal_of};
 
 // A digit of a number in decimal.
 pub fn is_figure(d: u8) -> bool
     ensures { result ≡ is_figure d }
 {
-    (0x30 <= d) & (d <= 0x39)
+    matches!(d, b'0'..=b'9')
 }
 
 fn is_letter(d: u8) -> bool
     ensures { result ≡ is_letter d }
 {
-    (0x41 <= d) & (d <= 0x46)
+    matches!(d, b'A'..=b'F')
 }
 
 fn is_digit(d: u8) -> bool
     ensures { result ≡ is_digit d }
 {
-    is_figure(d) | is_letter(d)
+    is_figure(d) || is_letter(d)
 }
 
 // Every byte is a digit in upper-case hex.
 pub fn all_digits(s: &[u8]) -> bool
     ensures { result ≡ all_digits s.now }
 {
-    let mut i = 0;
-    while i < s.len() {
-        if !is_digit(s[i]) {
-            return false;
-        }
-        i += 1;
-    }
-    true
+    s.iter().all(|d| is_digit(*d))
 }
 
-// The value of a digit, 0 for a byte that is none.
+// The value of a digit, 0 for a byte that is none. The library turns a `char` into a digit and back, and no byte.
+#[tactic(auto, unfolding(crate::specs::Text::value_of))]
 fn value(d: u8) -> u8
     ensures { result ≡ value_of d }
 {
-    if is_figure(d) {
-        return d - 0x30;
+    match d {
+        b'0'..=b'9' => d - b'0',
+        b'A'..=b'F' => d - b'A' + 10,
+        _ => 0,
     }
-    if is_letter(d) {
-        return d - 0x37;
-    }
-    0
 }
 
 // The bytes that pairs of digits stand for go to the start of out.
+#[tactic(auto, using(crate::proofs::Texts::value_most, crate::proofs::Texts::bytes_count), unfolding(crate::specs::Text::bytes_in))]
 pub fn put_bytes(digits: &[u8], out: &mut [u8]) -> usize
     requires { length (bytes_in digits.now) ≤ length out.old }
     ensures { Put (bytes_in digits.now) out.old out.new result }
 {
-    let mut i = 0;
-    let mut at = 0;
-    while 1 < digits.len() - i {
-        out[at] = 16 * value(digits[i]) + value(digits[i + 1]);
-        i += 2;
-        at += 1;
+    let (pairs, _) = digits.as_chunks::<2>();
+    for (i, pair) in pairs.iter().enumerate() {
+        out[i] = 16 * value(pair[0]) + value(pair[1]);
     }
-    at
+    pairs.len()
 }
 
 fn hex_digit(n: u8) -> u8
     requires { n < 16 }
     ensures { result ≡ hex_digit n }
 {
-    if n < 10 { 0x30 + n } else { 0x37 + n }
+    if n < 10 { b'0' + n } else { b'A' + (n - 10) }
 }
 
 // The bytes in hex go to the start of out.
+#[tactic(auto, using(crate::proofs::Texts::hex_length), unfolding(crate::specs::Text::hex_of))]
 pub fn put_hex(bytes: &[u8], out: &mut [u8]) -> usize
     requires { length (hex_of bytes.now) ≤ length out.old }
     ensures { Put (hex_of bytes.now) out.old out.new result }
 {
-    let mut i = 0;
-    let mut at = 0;
-    while i < bytes.len() {
-        let b = bytes[i];
-        out[at] = hex_digit(b / 16);
-        at += 1;
-        out[at] = hex_digit(b % 16);
-        at += 1;
-        i += 1;
+    for (i, byte) in bytes.iter().enumerate() {
+        out[2 * i] = hex_digit(*byte / 16);
+        out[2 * i + 1] = hex_digit(*byte % 16);
     }
-    at
+    2 * bytes.len()
 }
 
 // The bytes in hex, or a mark where there are none, go to the start of out.
+#[tactic(auto, unfolding(crate::specs::Text::hex_or))]
 pub fn put_hex_or(mark: u8, bytes: &[u8], out: &mut [u8]) -> usize
     requires { length (hex_or mark bytes.now) ≤ length out.old }
     ensures { Put (hex_or mark bytes.now) out.old out.new result }
 {
-    if bytes.len() == 0 {
+    if bytes.is_empty() {
         out[0] = mark;
         return 1;
     }
@@ -126,10 +95,10 @@ pub fn put_decimal(n: u64, out: &mut [u8]) -> usize
     ensures { Put (decimal_of n) out.old out.new result }
 {
     if n < 10 {
-        out[0] = 0x30 + n as u8;
+        out[0] = b'0' + n as u8;
         return 1;
     }
     let at = put_decimal(n / 10, out);
-    out[at] = 0x30 + (n % 10) as u8;
+    out[at] = b'0' + (n % 10) as u8;
     at + 1
 }

@@ -1,7 +1,7 @@
 -- The search does not depend on the order in which the UIDs are given: two lists in which each number stands equally often give the same.
 -- Assumes nothing.
 use mathlib.Core.Path.{◌≡◌, refl, sym, ap, ◌∙◌}
-use mathlib.Core.Bool.{Bool, true, false, ◌||◌}
+use mathlib.Core.Bool.{Bool, false}
 use mathlib.Core.List.{List, [], ◌∷◌}
 use Prim.Native.Nat.{ℕ, zero, suc, ◌+◌, ◌≤◌, ◌<◌}
 use native.Mathlib.Omega.{arith}
@@ -29,13 +29,7 @@ without u (v ∷ vs) = if eqb u v then vs else v ∷ without u vs
 weigh_without : (w : ℕ → ℕ) (u : ℕ) (vs : List ℕ) → 0 < times_in u vs → weigh w vs ≡ w u + weigh w (without u vs)
 unfolding weigh times_in without
 weigh_without w u [] h = absurd (omega arith)
-weigh_without w u (v ∷ vs) h = here (eqb u v) refl (weigh_without w u vs)
-  where
-    here : (b : Bool) → eqb u v ≡ b → (0 < times_in u vs → weigh w vs ≡ w u + weigh w (without u vs)) → w v + weigh w vs ≡ w u + weigh w (without u (v ∷ vs))
-    here true e r = let q : u ≡ v = eqb-true u v e in rw (e, q)
-    here false e r =
-        let l = rw e at h in
-        rw e (omega (arith, r (omega arith)))
+weigh_without w u (v ∷ vs) h = grind (arith, weigh_without w u vs, eqb-true u v)
 
 -- a number that stands in the one list stands in the other
 stands : (u : ℕ) (us vs : List ℕ) → Rearranged (u ∷ us) vs → 0 < times_in u vs
@@ -68,12 +62,7 @@ same_length us vs r = sym (weigh_length us) ∙ same_weight (λ u. 1) us vs r �
 weigh_those : (test : ℕ → Bool) (w : ℕ → ℕ) (us : List ℕ) → weigh w (those test us) ≡ weigh (λ u. if test u then w u else 0) us
 unfolding weigh those
 weigh_those test w [] = refl
-weigh_those test w (u ∷ us) = here (test u) refl (weigh_those test w us)
-  where
-    here : (b : Bool) → test u ≡ b → weigh w (those test us) ≡ weigh (λ u. if test u then w u else 0) us
-        → weigh w (those test (u ∷ us)) ≡ (if test u then w u else 0) + weigh (λ u. if test u then w u else 0) us
-    here true e r = rw e (omega (arith, r))
-    here false e r = rw e (omega (arith, r))
+weigh_those test w (u ∷ us) = grind (arith, weigh_those test w us)
 
 same_those : (test : ℕ → Bool) (us vs : List ℕ) → Rearranged us vs → Rearranged (those test us) (those test vs)
 same_those test us vs r u =
@@ -85,11 +74,7 @@ same_those test us vs r u =
 
 alone : (u v : ℕ) → Rearranged (u ∷ []) (v ∷ []) → u ≡ v
 unfolding times_in
-alone u v r = here (eqb u v) refl
-  where
-    here : (b : Bool) → eqb u v ≡ b → u ≡ v
-    here true e = eqb-true u v e
-    here false e = let q = rw (eq-eqb u u refl, e) at (r u) in absurd (omega arith)
+alone u v r = grind (arith, eqb-true u v, eq-eqb u u refl, r u)
 
 data Alike (us vs : List ℕ) : Type 0 where
   nobody : us ≡ [] → vs ≡ [] → Alike us vs
@@ -131,20 +116,12 @@ joined_same f g (suc k) s e = rw (e s, joined_same f g k (s + 1) e)
 
 -- "two UIDs are equal" where a number stands twice, and only there
 pub few_times : (us : List ℕ) → any_equal us ≡ false → (u : ℕ) → times_in u us ≤ 1
-few_times us d u = here (is_in u us) refl
-  where
-    here : (b : Bool) → is_in u us ≡ b → times_in u us ≤ 1
-    here true e = omega (arith, times_one u us d e)
-    here false e = omega (arith, times_none u us e)
+few_times us d u = grind (arith, times_one u us d, times_none u us)
 
 in_times : (u : ℕ) (us : List ℕ) → times_in u us ≡ 0 → is_in u us ≡ false
 unfolding is_in times_in
 in_times u [] e = refl
-in_times u (v ∷ us) e = here (eqb u v) refl (in_times u us)
-  where
-    here : (b : Bool) → eqb u v ≡ b → (times_in u us ≡ 0 → is_in u us ≡ false) → (eqb u v || is_in u us) ≡ false
-    here true f r = let q = rw f at e in absurd (omega arith)
-    here false f r = let q = rw f at e in rw f (r (omega arith))
+in_times u (v ∷ us) e = grind (arith, in_times u us)
 
 pub times_few : (us : List ℕ) → ((u : ℕ) → times_in u us ≤ 1) → any_equal us ≡ false
 unfolding any_equal times_in

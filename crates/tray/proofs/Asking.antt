@@ -1,96 +1,82 @@
 -- What the loop over the slots keeps, and what a slot's answers lead to.
 -- Assumes nothing.
 use mathlib.Core.Path.{◌≡◌, refl, sym, ap, ◌∙◌}
+use mathlib.Core.Bool.{Bool}
 use mathlib.Core.List.{List, [], ◌∷◌, ◌++◌}
-use Prim.Native.Nat.{ℕ, zero, suc, ◌+◌, ◌*◌, ◌-◌, ◌/◌, ◌%◌, ◌^◌, ◌≤◌, ◌<◌}
+use Prim.Native.Nat.{ℕ, suc, ◌+◌, ◌*◌, ◌-◌, ◌/◌, ◌%◌, ◌^◌, ◌≤◌, ◌<◌}
 use native.Mathlib.Omega.{arith}
-use native.Mathlib.Nat.{lt_of_lt_of_le}
-use lib.Pow.{pow_mono}
 use lib.ListN.{length, take, drop, get_or, set}
-use Rattle.put.proofs.Bits.{one_shifted}
-use Rattle.put.proofs.Written.{Written, Next, none, sum, room, more, whole}
-use Rattle.tag.specs.Inventory.{next_four, fits}
-use Rattle.tray.specs.Tray.{those, joined, total, longer, heard, found, answering}
-use Rattle.tray.specs.Steps.{costs, requests, slot_finds, slot_sends, Listened, Grows, Asks, Asked, AsksSlot, AskedSlot}
-use Rattle.tray.proofs.Slots.{those_same, speaks_fits, longer_below}
+use Rattle.std.specs.Prelude.{Option, Some}
+use Rattle.std.proofs.lemmas.List.{nil_from_length}
+use Rattle.std.specs.List.{find}
+use Rattle.put.proofs.Written.{Written, Next, none, room, more, whole}
+use Rattle.tag.specs.Inventory.{fits}
+use Rattle.tray.specs.Tray.{speaks_in, those, joined, total, longer, heard, found, answering}
+use Rattle.tray.specs.Steps.{costs, requests, above, slot_finds, slot_sends, Listened, Asks, Asked, AsksSlot, AskedSlot}
+use Rattle.tray.proofs.Slots.{answer_longer}
 use Rattle.tray.proofs.Count.{requests_few}
 
 -- ---- a request is its slots
 
-finds : (uids : List ℕ) (mask bits left : ℕ) → 0 < left → found left uids mask bits ≡ joined (slot_finds (left - 1) uids mask bits) 16 0
-unfolding found
-finds uids mask bits zero h = absurd (omega arith)
-finds uids mask bits (suc k) h = let e : suc k - 1 ≡ k = omega arith in rw e
+module _ (uids : List ℕ) (mask bits : ℕ) (h : bits ≤ 60) where
+  -- a longer mask has a group fewer above it
+  one_less : above bits ≡ suc (above (bits + 4))
+  one_less = omega arith
 
-sends : (uids : List ℕ) (mask bits left : ℕ) → 0 < left → requests left uids mask bits ≡ 1 + total (slot_sends (left - 1) uids mask bits) 16 0
-unfolding requests
-sends uids mask bits zero h = absurd (omega arith)
-sends uids mask bits (suc k) h = let e : suc k - 1 ≡ k = omega arith in rw e
+  finds : found (above bits) uids mask bits ≡ joined (slot_finds uids mask bits) 16 0
+  unfolding found
+  finds = rw one_less
 
--- with no group above the mask there is none
-pub asked_none : {uids out : List ℕ} {mask bits left : ℕ} → left ≡ 0 → Asked uids mask bits left out out 0 0
-unfolding found requests
-asked_none e = rw e (record { put = record { count = refl; is = refl }; sends = refl })
+  sends : requests (above bits) uids mask bits ≡ 1 + total (slot_sends uids mask bits) 16 0
+  unfolding requests
+  sends = rw one_less
 
 -- so many slots are done
-pub record Asking (uids : List ℕ) (mask bits left tally : ℕ) (out₀ out : List ℕ) (at sent slot : ℕ) : Type 0 where
-  pub asks : Asks uids mask bits left out₀
-  pub some : 0 < left
+pub record Asking (uids : List ℕ) (mask bits : ℕ) (tally out₀ out : List ℕ) (at sent slot : ℕ) : Type 0 where
   pub listened : Listened uids mask bits tally
-  pub slots : slot ≤ 16
-  pub written : Written (found left uids mask bits) (joined (slot_finds (left - 1) uids mask bits) (16 - slot) slot) out₀ out at
-  pub sum : sent + total (slot_sends (left - 1) uids mask bits) (16 - slot) slot ≡ requests left uids mask bits
+  pub written : Written (found (above bits) uids mask bits) (joined (slot_finds uids mask bits) (16 - slot) slot) out₀ out at
+  pub sum : sent + total (slot_sends uids mask bits) (16 - slot) slot ≡ requests (above bits) uids mask bits
 
-pub asking : {uids out : List ℕ} {mask bits left tally : ℕ} → Asks uids mask bits left out → (left ≡ 0 → ⊥) → Listened uids mask bits tally
-    → Asking uids mask bits left tally out out 0 1 0
-asking {uids} {out} {mask} {bits} {left} a n l =
-    let p : 0 < left = omega arith in
-    let e = finds uids mask bits left p in
-    record { asks = a; some = p; listened = l; slots = omega arith; written = rw (← e) (none a.room); sum = sym (sends uids mask bits left p) }
+pub asking : {uids out tally : List ℕ} {mask bits : ℕ} → Asks uids mask bits out → bits ≤ 60 → Listened uids mask bits tally
+    → Asking uids mask bits tally out out 0 1 0
+asking {uids} {out} {tally} {mask} {bits} a h l =
+    record { listened = l; written = rw (← finds uids mask bits h) (none a.room); sum = sym (sends uids mask bits h) }
 
-module _ {uids : List ℕ} {mask bits left tally : ℕ} {out₀ out : List ℕ} {at sent slot : ℕ} (a : Asking uids mask bits left tally out₀ out at sent slot) where
-  pub asked : 16 ≤ slot → Asked uids mask bits left out₀ out at sent
+module _ {uids : List ℕ} {mask bits : ℕ} {tally out₀ out : List ℕ} {at sent slot : ℕ} (a : Asking uids mask bits tally out₀ out at sent slot) where
+  pub asked : 16 ≤ slot → Asked uids mask bits out₀ out at sent
   unfolding joined total
   asked h =
       let e : 16 - slot ≡ 0 = omega arith in
       record { put = whole (rw e at a.written); sends = (let q = rw e at a.sum in omega arith) }
 
   module _ (h : slot < 16) where
-    next : Next (found left uids mask bits) (slot_finds (left - 1) uids mask bits slot)
-        (joined (slot_finds (left - 1) uids mask bits) (16 - (slot + 1)) (slot + 1)) out₀ out at
+    next : Next (found (above bits) uids mask bits) (slot_finds uids mask bits slot)
+        (joined (slot_finds uids mask bits) (16 - (slot + 1)) (slot + 1)) out₀ out at
     unfolding joined
     next = let e : 16 - slot ≡ suc (16 - (slot + 1)) = omega arith in record { written = rw e at a.written }
 
-    pub asks_slot : AsksSlot uids mask bits (left - 1) slot tally (take (length out - at) (drop at out))
-    asks_slot =
-        record { span = omega (arith, a.asks.span); low = a.asks.low; few = a.asks.few; slots = h; listened = a.listened; room = room next }
+    pub asks_slot : AsksSlot uids mask bits slot (get_or tally slot 0) (take (length out - at) (drop at out))
+    asks_slot = record { count = a.listened.counts slot h; room = room next }
 
-    module _ {ys : List ℕ} {n k : ℕ} (g : AskedSlot uids mask bits (left - 1) slot (take (length out - at) (drop at out)) ys n k) where
-      sent_then : sent + k + total (slot_sends (left - 1) uids mask bits) (16 - (slot + 1)) (slot + 1) ≡ requests left uids mask bits
+    module _ {ys : List ℕ} {n k : ℕ} (g : AskedSlot uids mask bits slot (take (length out - at) (drop at out)) ys n k) where
+      sent_then : sent + k + total (slot_sends uids mask bits) (16 - (slot + 1)) (slot + 1) ≡ requests (above bits) uids mask bits
       unfolding total
       sent_then =
           let e : 16 - slot ≡ suc (16 - (slot + 1)) = omega arith in
           let q = rw e at a.sum in
           omega (arith, g.sends)
 
-      -- the sums fit
-      pub within : at + n ≤ length out
-      within = omega (arith, sum next, g.put.count)
+      -- the sum fits
+      pub few : mask < 2 ^ bits → length uids ≤ 256 → sent + k ≤ 1921
+      few m f =
+          let l : above bits ≤ 16 = omega arith in
+          let r : requests (above bits) uids mask bits ≤ 1 + 15 * (length uids / 2) = requests_few uids (above bits) mask bits m l in
+          omega (arith, sent_then)
 
-      pub few : sent + k ≤ 1921
-      few =
-          let l : left ≤ 16 = omega (arith, a.asks.span) in
-          let r : requests left uids mask bits ≤ 1 + 15 * (length uids / 2) = requests_few uids left mask bits a.asks.low l in
-          omega (arith, sent_then, a.asks.few)
-
-      pub again : Asking uids mask bits left tally out₀ (take at out ++ (ys ++ drop (length out - at) (drop at out))) (at + n) (sent + k) (slot + 1)
-      again = record { asks = a.asks; some = a.some; listened = a.listened; slots = omega arith; written = more next g.put; sum = sent_then }
+      pub again : Asking uids mask bits tally out₀ (take at out ++ (ys ++ drop (length out - at) (drop at out))) (at + n) (sent + k) (slot + 1)
+      again = record { listened = a.listened; written = more next g.put; sum = sent_then }
 
 -- ---- what a slot's answers lead to
-
-no_answer : (us : List ℕ) → length us ≡ 0 → us ≡ []
-no_answer [] e = refl
-no_answer (u ∷ us) e = absurd (omega arith)
 
 one_answer : (us : List ℕ) → length us ≡ 1 → us ≡ get_or us 0 0 ∷ []
 one_answer [] e = absurd (omega arith)
@@ -108,53 +94,54 @@ set_first : (xs : List ℕ) (u : ℕ) → 0 < length xs → set xs 0 u ≡ u ∷
 set_first [] u h = absurd (omega arith)
 set_first (x ∷ xs) u h = refl
 
-module _ {uids : List ℕ} {mask bits above slot tally : ℕ} {out : List ℕ} (a : AsksSlot uids mask bits above slot tally out)
-    {answers : ℕ} (r : answers ≡ next_four tally (4 * slot)) where
-  pub slot_none : answers ≡ 0 → AskedSlot uids mask bits above slot out out 0 0
+-- the first that passes a test
+first_found : (test : ℕ → Bool) (us : List ℕ) {u : ℕ} {vs : List ℕ} → those test us ≡ u ∷ vs → find test us ≡ Some u
+unfolding those
+first_found test [] e = absurd cc
+first_found test (v ∷ us) e = grind (arith, first_found test us)
+
+module _ {uids : List ℕ} {mask bits slot answers : ℕ} {out : List ℕ} (a : AsksSlot uids mask bits slot answers out) where
+  pub slot_none : answers ≡ 0 → AskedSlot uids mask bits slot out out 0 0
   unfolding heard costs
   slot_none e =
-      let q : answering uids mask bits slot ≡ [] = no_answer _ (omega (arith, a.listened.answers slot)) in
+      let q : answering uids mask bits slot ≡ [] = nil_from_length _ (omega (arith, a.count)) in
       record { put = rw q (record { count = refl; is = refl }); sends = rw q }
 
-  -- those that the longer mask fits are those that answer in the slot
-  module _ {m : ℕ} (f : m ≡ longer mask bits slot) where
-    fitted : those (fits m (bits + 4)) uids ≡ answering uids mask bits slot
-    fitted = rw f (sym (those_same _ _ (speaks_fits mask bits slot a.low) uids))
+  module _ (one : answers ≡ 1) where
+    the_answer : answering uids mask bits slot ≡ get_or (answering uids mask bits slot) 0 0 ∷ []
+    the_answer = one_answer _ (omega (arith, a.count))
 
-    module _ (some : answers ≡ 0 → ⊥) (one : answers < 2) where
-      the_answer : answering uids mask bits slot ≡ get_or (answering uids mask bits slot) 0 0 ∷ []
-      the_answer = one_answer _ (omega (arith, a.listened.answers slot))
+    pub one_room : 0 < length out
+    unfolding heard
+    one_room = let l = rw the_answer at a.room in omega arith
 
-      pub one_room : 0 < length out
-      unfolding heard
-      one_room = let l = rw the_answer at a.room in omega arith
+    pub one_found : find (speaks_in mask bits slot) uids ≡ Some (get_or (answering uids mask bits slot) 0 0)
+    one_found = first_found (speaks_in mask bits slot) uids the_answer
 
-      pub slot_one : {u : ℕ} → u ≡ get_or (those (fits m (bits + 4)) uids) 0 0 → AskedSlot uids mask bits above slot out (set out 0 u) 1 0
-      unfolding heard costs
-      slot_one {u} e =
-          let g : u ≡ get_or (answering uids mask bits slot) 0 0 = e ∙ ap (λ (us : List ℕ). get_or us 0 0) fitted in
-          let q : answering uids mask bits slot ≡ u ∷ [] = rw g the_answer in
-          record { put = rw q (record { count = refl; is = set_first out u one_room }); sends = rw q }
+    pub slot_one : {r : Option ℕ} {u : ℕ} → r ≡ find (speaks_in mask bits slot) uids → r ≡ Some u → AskedSlot uids mask bits slot out (set out 0 u) 1 0
+    unfolding heard costs
+    slot_one {r} {u} e f =
+        let s : Some u ≡ Some (get_or (answering uids mask bits slot) 0 0) = sym f ∙ e ∙ one_found in
+        let g : get_or (answering uids mask bits slot) 0 0 ≡ u = cc in
+        let q : answering uids mask bits slot ≡ u ∷ [] = the_answer ∙ rw g in
+        record { put = rw q (record { count = refl; is = set_first out u one_room }); sends = rw q }
 
-    module _ (two : 2 ≤ answers) where
-      goes : (slot_finds above uids mask bits slot ≡ found above uids (longer mask bits slot) (bits + 4))
-          × (slot_sends above uids mask bits slot ≡ requests above uids (longer mask bits slot) (bits + 4))
-      goes = collision _ (omega (arith, a.listened.answers slot)) (found above uids) (requests above uids) (longer mask bits slot) (bits + 4)
+  module _ (two : 2 ≤ answers) where
+    -- the tags differ in 64 bits, so that there is a group for a longer mask
+    pub not_last : ((m : ℕ) → length (those (fits m 64) uids) < 2) → mask < 2 ^ bits → bits ≤ 60 → bits % 4 ≡ 0 → bits ≤ 56
+    not_last differ m h d =
+        grind (arith, ap length (answer_longer mask bits slot m uids), a.count, differ (longer mask bits slot))
 
-      pub slot_asks : Asks uids m (bits + 4) above out
-      slot_asks =
-          rw f (record { span = omega (arith, a.span); low = longer_below mask bits slot a.low a.slots; few = a.few; room = rw goes.0 at a.room })
+    goes : (slot_finds uids mask bits slot ≡ found (above (bits + 4)) uids (longer mask bits slot) (bits + 4))
+        × (slot_sends uids mask bits slot ≡ requests (above (bits + 4)) uids (longer mask bits slot) (bits + 4))
+    goes =
+        collision _ (omega (arith, a.count)) (found (above (bits + 4)) uids) (requests (above (bits + 4)) uids) (longer mask bits slot) (bits + 4)
 
-      pub slot_again : {ys : List ℕ} {n k : ℕ} → Asked uids m (bits + 4) above out ys n k → AskedSlot uids mask bits above slot out ys n k
+    module _ {m b : ℕ} (e : m ≡ longer mask bits slot) (f : b ≡ bits + 4) where
+      pub slot_asks : Asks uids m b out
+      slot_asks = rw (e, f) (record { room = rw goes.0 at a.room })
+
+      pub slot_again : {ys : List ℕ} {n k : ℕ} → Asked uids m b out ys n k → AskedSlot uids mask bits slot out ys n k
       slot_again {ys} {n} {k} g =
-          let h : Asked uids (longer mask bits slot) (bits + 4) above out ys n k = rw f at g in
+          let h : Asked uids (longer mask bits slot) (bits + 4) out ys n k = rw (e, f) at g in
           record { put = rw goes.0 h.put; sends = h.sends ∙ sym goes.1 }
-
--- the sums fit
-pub longer_fits : {mask bits slot : ℕ} → Grows mask bits slot → longer mask bits slot < 2 ^ 64
-longer_fits {mask} {bits} {slot} g =
-    let l : bits + 4 ≤ 64 = omega (arith, g.length) in
-    lt_of_lt_of_le (longer_below mask bits slot g.low g.slots) (pow_mono l)
-
-pub shifted : {mask bits slot : ℕ} → Grows mask bits slot → 1 * 2 ^ bits % 2 ^ 64 ≡ 2 ^ bits
-shifted {mask} {bits} g = one_shifted bits (omega (arith, g.length))

@@ -1,7 +1,7 @@
 -- How many requests a search sends.
 -- Assumes nothing.
-use mathlib.Core.Path.{◌≡◌, refl, ◌∙◌}
-use mathlib.Core.Bool.{Bool, true, false}
+use mathlib.Core.Path.{◌≡◌, ◌∙◌}
+use mathlib.Core.Bool.{Bool}
 use mathlib.Core.List.{List, [], ◌∷◌}
 use Prim.Native.Nat.{ℕ, zero, suc, ◌+◌, ◌*◌, ◌/◌, ◌^◌, ◌≤◌, ◌<◌}
 use native.Mathlib.Nat.{mul-add, mul-le-mul_left, mul-le-mul}
@@ -11,7 +11,7 @@ use lib.Pow.{pow_pos}
 use Rattle.tag.specs.Inventory.{fits}
 use Rattle.tray.specs.Tray.{speaks_in, those, total, longer, search_sends}
 use Rattle.tray.specs.Steps.{costs, requests}
-use Rattle.tray.proofs.Slots.{speaks_fits, those_same, longer_below}
+use Rattle.tray.proofs.Slots.{answer_longer, longer_below}
 use Rattle.tray.proofs.Sent.{walk_counts}
 use Rattle.tray.proofs.Weigh.{weigh, weigh_length, shared_out, everyone}
 
@@ -52,7 +52,7 @@ module _ (uids : List ℕ) where
           → costs (those (speaks_in mask bits x) uids) (requests k uids) (longer mask bits x) (bits + 4)
           ≤ k * (weigh (λ u. 1) (those (speaks_in mask bits x) uids) / 2)
       slot x a b =
-          let q : those (speaks_in mask bits x) uids ≡ those (fits (longer mask bits x) (bits + 4)) uids = those_same _ _ (speaks_fits mask bits x m) uids in
+          let q = answer_longer mask bits x m uids in
           rw weigh_length (costs_at_most (those (speaks_in mask bits x) uids) (requests k uids) (longer mask bits x) (bits + 4) k
           (λ l. rw q (again x (omega arith) (rw q at l))))
 
@@ -62,26 +62,18 @@ module _ (uids : List ℕ) where
 
   pub at_most : (k mask bits : ℕ) → mask < 2 ^ bits → requests (suc k) uids mask bits ≤ 1 + k * (length (those (fits mask bits) uids) / 2)
   at_most zero mask bits m = node 0 mask bits m (λ x l h. no_request (longer mask bits x) (bits + 4) _)
-  at_most (suc k) mask bits m = node (suc k) mask bits m (λ x l h. more x l h (at_most k (longer mask bits x) (bits + 4) (longer_below mask bits x m l)))
-    where
-      more : (x : ℕ) → x < 16 → 2 ≤ length (those (fits (longer mask bits x) (bits + 4)) uids)
-          → requests (suc k) uids (longer mask bits x) (bits + 4) ≤ 1 + k * (length (those (fits (longer mask bits x) (bits + 4)) uids) / 2)
-          → requests (suc k) uids (longer mask bits x) (bits + 4) ≤ suc k * (length (those (fits (longer mask bits x) (bits + 4)) uids) / 2)
-      more x l h r = omega arith
+  at_most (suc k) mask bits m =
+      node (suc k) mask bits m (λ x l h. let r = at_most k (longer mask bits x) (bits + 4) (longer_below mask bits x m l) in omega arith)
 
 -- "for n tags it is at most 1 + 15 × (n halved, rounded down)"
 pub requests_at_most : (uids : List ℕ) → search_sends uids ≤ 1 + 15 * (length uids / 2)
 requests_at_most uids = rw (← walk_counts 16 uids 0 0) (rw everyone at (at_most uids 15 0 0 (pow_pos 0)))
 
 -- and so for a request on the way
-length_those : (test : ℕ → Bool) (us : List ℕ) → length (those test us) ≤ length us
+pub length_those : (test : ℕ → Bool) (us : List ℕ) → length (those test us) ≤ length us
 unfolding those
 length_those test [] = omega arith
-length_those test (u ∷ us) = here (test u) refl (length_those test us)
-  where
-    here : (b : Bool) → test u ≡ b → length (those test us) ≤ length us → length (those test (u ∷ us)) ≤ length (u ∷ us)
-    here true e r = rw e (omega arith)
-    here false e r = rw e (omega arith)
+length_those test (u ∷ us) = grind (arith, length_those test us)
 
 pub requests_few : (uids : List ℕ) (k mask bits : ℕ) → mask < 2 ^ bits → k ≤ 16 → requests k uids mask bits ≤ 1 + 15 * (length uids / 2)
 unfolding requests

@@ -14,8 +14,7 @@ use Rattle.put.proofs.Numbers.{in_parts, length_bytes}
 use Rattle.put.proofs.RoundTrips.{number_of_bytes, number_after}
 use Rattle.record.specs.declared.Front.{Front}
 use Rattle.record.specs.declared.State.TheVariants.{Ready}
-use Rattle.record.specs.declared.Round.TheVariants as round
-use Rattle.record.specs.Update.{with_round}
+use Rattle.record.specs.Update.{with_round, running}
 use Rattle.tag.specs.declared.Heard.TheVariants as told
 use Rattle.tag.specs.Frame.{end_of, heard_of}
 use Rattle.tag.specs.Work.{work, silence, says}
@@ -81,7 +80,7 @@ module _ (q : Request) (p : Proper q) where
 
     -- a tag whose UID has the mask opens a round, any other does nothing
     pub asked_fits : fits q.mask q.bits t.uid ≡ true
-        → inventory_of t (ask_frame q) ≡ work (with_round t (round.Open 0 q.bits)) (says (in_slot t 0 q.bits))
+        → inventory_of t (ask_frame q) ≡ work (with_round t (running 0 q.bits)) (says (in_slot t 0 q.bits))
     unfolding inventory_of
     asked_fits e = rw (is_unheard, e, mask_length_lem)
 

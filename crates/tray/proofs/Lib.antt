@@ -6,11 +6,10 @@ pub mod Order
 pub mod Theorems
 pub mod AnyOrder
 pub mod OnlyOne
-pub mod Places
-pub mod Groups
-pub mod Asking
-pub mod Given
 pub mod Examples
 pub mod Shared
 pub mod Frames
 pub mod Tags
+pub mod Hearing
+pub mod Asking
+pub mod Given

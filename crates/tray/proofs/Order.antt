@@ -1,12 +1,10 @@
 -- The order in which a search lists what it finds.
 -- Assumes nothing.
 use mathlib.Core.Path.{◌≡◌, refl, sym, ap, ◌∙◌}
-use mathlib.Core.Bool.{Bool, true, false}
+use mathlib.Core.Bool.{true}
 use mathlib.Core.List.{List, [], ◌∷◌, ◌++◌}
 use Prim.Native.Nat.{ℕ, zero, suc, ◌+◌, ◌*◌, ◌-◌, ◌/◌, ◌%◌, ◌^◌, ◌≤◌, ◌<◌}
 use native.Mathlib.Omega.{arith}
-use lib.Dec.{ltb}
-use borrow.Author.Tests.{ltb-true, ltb-false}
 use lib.Pow.{pow_pos, field, mod-mod-pow}
 use Rattle.tag.specs.Inventory.{low_bits, next_four}
 use Rattle.tray.specs.Tray.{speaks_in, joined, longer, heard, found, search_finds, Before, Each, none, more, Ascending, nobody, first}
@@ -84,12 +82,4 @@ same_group u v low high h e = group_of u ∙ ap (λ (x : ℕ). x / 2 ^ (4 * low)
         rw (p, field x j (4 * low)) (sym (rw (← q) at (mod-mod-pow (x / 2 ^ (4 * low)) (j - 4) 4)))
 
 pub before_one_way : (u v : ℕ) → Before u v → Before v u → ⊥
-before_one_way u v a b = here (ltb a.group b.group) (ltb b.group a.group) refl refl
-  where
-    here : (x y : Bool) → ltb a.group b.group ≡ x → ltb b.group a.group ≡ y → ⊥
-    here true y e f = omega (arith, same_group u v a.group b.group (ltb-true _ _ e) (sym b.same), a.less)
-    here false true e f = omega (arith, same_group u v b.group a.group (ltb-true _ _ f) a.same, b.less)
-    here false false e f =
-        let g : b.group ≡ a.group = omega (arith, ltb-false) in
-        let l = rw g at b.less in
-        omega (arith, a.less)
+before_one_way u v a b = grind (arith, same_group u v a.group b.group, same_group u v b.group a.group, a.less, b.less, a.same, b.same)

@@ -17,31 +17,24 @@ use Rattle.tray.specs.Tray.{speaks_in, those, total, longer, search_sends, share
 use Rattle.tray.specs.Steps.{costs, requests}
 use Rattle.tray.proofs.Sent.{walk_counts}
 use Rattle.tray.proofs.Count.{total_halves}
-use Rattle.tray.proofs.Slots.{in_bits, speaks_fits, those_same, longer_below, total_same, total_none, total_add, total_one}
+use Rattle.tray.proofs.Slots.{in_bits, answer_longer, longer_below, total_same, total_none, total_add, total_one}
 
 -- ---- sums
 
 total_last : (f : ℕ → ℕ) (k s : ℕ) → total f (suc k) s ≡ total f k s + f (s + k)
 unfolding total
 total_last f zero s = rw (add-zero s) (omega arith)
-total_last f (suc k) s =
-    let e : s + suc k ≡ s + 1 + k = omega arith in
-    rw e (omega (arith, total_last f k (s + 1)))
+total_last f (suc k) s = grind (arith, total_last f k (s + 1))
 
 total_append : (f : ℕ → ℕ) (j k s : ℕ) → total f (j + k) s ≡ total f j s + total f k (s + j)
 unfolding total
 total_append f zero k s = rw (zero-add k, add-zero s) (omega arith)
-total_append f (suc j) k s =
-    let e : suc j + k ≡ suc (j + k) = omega arith in
-    let g : s + suc j ≡ s + 1 + j = omega arith in
-    rw (e, g) (omega (arith, total_append f j k (s + 1)))
+total_append f (suc j) k s = let e : suc j + k ≡ suc (j + k) = omega arith in rw e (grind (arith, total_append f j k (s + 1)))
 
 total_shift : (f : ℕ → ℕ) (c k s : ℕ) → total (λ x. f (c + x)) k s ≡ total f k (c + s)
 unfolding total
 total_shift f c zero s = refl
-total_shift f c (suc k) s =
-    let e : c + s + 1 ≡ c + (s + 1) = omega arith in
-    rw e (omega (arith, total_shift f c k (s + 1)))
+total_shift f c (suc k) s = grind (arith, total_shift f c k (s + 1))
 
 total_swap : (h : ℕ → ℕ → ℕ) (k a n b : ℕ) → total (λ s. total (λ i. h s i) k a) n b ≡ total (λ i. total (λ s. h s i) n b) k a
 unfolding total
@@ -68,12 +61,7 @@ total_groups g (suc n) =
 fewer : (f g : ℕ → Bool) → ((u : ℕ) → f u ≡ true → g u ≡ true) → (us : List ℕ) → length (those f us) ≤ length (those g us)
 unfolding those
 fewer f g e [] = omega arith
-fewer f g e (u ∷ us) = here (f u) (g u) refl refl (fewer f g e us)
-  where
-    here : (a b : Bool) → f u ≡ a → g u ≡ b → length (those f us) ≤ length (those g us) → length (those f (u ∷ us)) ≤ length (those g (u ∷ us))
-    here true b p q r = rw (p, e u p) (omega arith)
-    here false true p q r = rw (p, q) (omega arith)
-    here false false p q r = rw (p, q) r
+fewer f g e (u ∷ us) = grind (arith, e u, fewer f g e us)
 
 no_costs : (us : List ℕ) (m b : ℕ) → costs us (λ mask bits. 0) m b ≡ 0
 unfolding costs
@@ -152,7 +140,7 @@ module _ (uids : List ℕ) where
           → costs (those (speaks_in mask bits s) uids) (requests (suc k) uids) (longer mask bits s) (bits + 4)
           ≡ shares (longer mask bits s) (bits + 4) + longer_to k (longer mask bits s) (bits + 4)
       slot s l r =
-          let q : those (speaks_in mask bits s) uids ≡ those (fits (longer mask bits s) (bits + 4)) uids = those_same _ _ (speaks_fits mask bits s m) uids in
+          let q = answer_longer mask bits s m uids in
           one_slot_lem (those (speaks_in mask bits s) uids) (requests (suc k) uids) (longer mask bits s) (bits + 4) (longer_to k (longer mask bits s) (bits + 4)) q
           (λ h. none_below k (longer mask bits s) (bits + 4) (longer_below mask bits s m l) (rw q at h)) (λ h. r)
 
@@ -180,11 +168,7 @@ requests_are uids = sym (walk_counts 16 uids 0 0) ∙ counted uids 15 0 0 (pow_p
 
 two_share : (u v mask bits : ℕ) → low_bits u bits ≡ low_bits v bits → shares (u ∷ v ∷ []) mask bits ≡ (if eqb (low_bits u bits) mask then 1 else 0)
 unfolding those fits
-two_share u v mask bits e = here (eqb (low_bits v bits) mask) refl
-  where
-    here : (b : Bool) → eqb (low_bits v bits) mask ≡ b → shares (u ∷ v ∷ []) mask bits ≡ (if eqb (low_bits u bits) mask then 1 else 0)
-    here true f = rw (e, f)
-    here false f = rw (e, f)
+two_share u v mask bits e = grind arith
 
 one_shared : (u v bits : ℕ) → low_bits u bits ≡ low_bits v bits → shared_masks (u ∷ v ∷ []) bits ≡ 1
 unfolding shared_masks
@@ -219,11 +203,7 @@ total_most f most (suc k) s h = omega (arith, h s, total_most f most k (s + 1) h
 
 -- a mask that two or more share is one mask, and one for half of them at most
 share_most : (n : ℕ) → ((if leb 2 n then 1 else 0) ≤ 1) × ((if leb 2 n then 1 else 0) ≤ 1 * (n / 2))
-share_most n = here (leb 2 n) refl
-  where
-    here : (b : Bool) → leb 2 n ≡ b → ((if leb 2 n then 1 else 0) ≤ 1) × ((if leb 2 n then 1 else 0) ≤ 1 * (n / 2))
-    here true e = rw e (omega arith, omega (arith, leb-true 2 n e))
-    here false e = rw e (omega arith, omega arith)
+share_most n = (grind arith, grind (arith, leb-true 2 n))
 
 -- each UID has one mask of so many bits
 one_mask : (bits : ℕ) (us : List ℕ) → total (λ mask. length (those (fits mask bits) us)) (2 ^ bits) 0 ≡ length us

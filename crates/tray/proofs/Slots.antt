@@ -1,7 +1,7 @@
 -- Sums over slots, what a longer mask means, and the laws of tests and powers that they take.
 -- Assumes nothing.
 use mathlib.Core.Path.{◌≡◌, refl, sym, ap, ◌∙◌}
-use mathlib.Core.Bool.{Bool, true, false}
+use mathlib.Core.Bool.{Bool, true}
 use mathlib.Core.List.{List, [], ◌∷◌}
 use Prim.Native.Nat.{ℕ, zero, suc, ◌+◌, ◌*◌, ◌/◌, ◌%◌, ◌^◌, ◌≤◌, ◌<◌}
 use native.Mathlib.Nat.{add_comm, mul-zero, mod-lt, mul-le-mul_right, pow-zero, pow-suc}
@@ -17,12 +17,7 @@ use Rattle.tray.specs.Tray.{speaks_in, those, total, longer}
 -- ---- two tests that are true together, or false together
 
 pub same_test : (x a b : Bool) → (a ≡ x → b ≡ x) → (b ≡ x → a ≡ x) → a ≡ b
-same_test true true b f g = sym (f refl)
-same_test true false true f g = g refl
-same_test true false false f g = refl
-same_test false false b f g = sym (f refl)
-same_test false true false f g = g refl
-same_test false true true f g = refl
+same_test x a b f g = grind (arith, f, g)
 
 -- ---- a power of a power of two, in bits
 
@@ -67,10 +62,15 @@ module _ (mask bits slot : ℕ) (m : mask < 2 ^ bits) where
 
 -- ---- those that pass a test
 
-pub those_same : (f g : ℕ → Bool) → ((u : ℕ) → f u ≡ g u) → (us : List ℕ) → those f us ≡ those g us
+those_same : (f g : ℕ → Bool) → ((u : ℕ) → f u ≡ g u) → (us : List ℕ) → those f us ≡ those g us
 unfolding those
 those_same f g e [] = refl
 those_same f g e (u ∷ us) = rw (e u, those_same f g e us)
+
+-- those that answer in a slot are those that the longer mask fits
+pub answer_longer : (mask bits slot : ℕ) → mask < 2 ^ bits → (uids : List ℕ)
+    → those (speaks_in mask bits slot) uids ≡ those (fits (longer mask bits slot) (bits + 4)) uids
+answer_longer mask bits slot m uids = those_same _ _ (speaks_fits mask bits slot m) uids
 
 -- ---- sums over slots
 
@@ -98,9 +98,4 @@ total_past a t (suc k) s h = rw (ne_eqb t s (λ e. omega arith)) (omega (arith, 
 pub total_one : (a t k s : ℕ) → s ≤ t → t < s + k → total (λ x. if eqb t x then a else 0) k s ≡ a
 unfolding total
 total_one a t zero s h l = absurd (omega arith)
-total_one a t (suc k) s h l = here (eqb t s) refl (λ q. total_one a t k (s + 1) q (omega arith))
-  where
-    here : (b : Bool) → eqb t s ≡ b → (s + 1 ≤ t → total (λ x. if eqb t x then a else 0) k (s + 1) ≡ a)
-        → (if eqb t s then a else 0) + total (λ x. if eqb t x then a else 0) k (s + 1) ≡ a
-    here true e r = let q : t ≡ s = eqb-true t s e in rw e (omega (arith, total_past a t k (s + 1) (omega arith)))
-    here false e r = let n = eqb-false t s e in rw e (omega (arith, r (omega arith)))
+total_one a t (suc k) s h l = grind (arith, eqb-true t s, eqb-false t s, total_one a t k (s + 1), total_past a t k (s + 1))

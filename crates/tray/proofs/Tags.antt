@@ -7,21 +7,20 @@ use mathlib.Core.List.{List, [], ◌∷◌, ◌++◌}
 use Prim.Native.Nat.{ℕ, zero, suc, ◌+◌, ◌≤◌, ◌<◌}
 use native.Mathlib.Nat.{add-zero, zero-add}
 use native.Mathlib.Omega.{arith}
-use lib.Dec.{eqb, ltb}
+use lib.Dec.{ltb}
 use borrow.Author.Tests.{lt-ltb}
+use Rattle.std.specs.Prelude.{Option, Some, None}
 use Rattle.put.proofs.If.{if_true, if_false}
+use Rattle.rights.specs.Verdict.{Verdict}
 use Rattle.rights.specs.declared.View.{View}
 use Rattle.rights.specs.Vault.{view_of}
 use Rattle.record.specs.declared.Front.{Front}
 use Rattle.record.specs.declared.Tag.{Tag}
 use Rattle.record.specs.declared.Round.{Round}
-use Rattle.record.specs.declared.Round.TheVariants as round
-use Rattle.record.specs.declared.Held.{Held}
-use Rattle.record.specs.declared.Held.TheVariants as held
-use Rattle.record.specs.Update.{with_round, with_held, with_front}
+use Rattle.record.specs.Update.{with_round, with_held, with_front, running}
 use Rattle.tag.specs.Rules.{blocks_of}
 use Rattle.tag.specs.Work.{Answer, Work, work, silence, verdict, says, perform}
-use Rattle.tag.specs.Inventory.{next_four, fits, unheard, one_slot, inventory_of, inventory_answer, mask_length, in_slot, slot_of, next_slot}
+use Rattle.tag.specs.Inventory.{fits, unheard, one_slot, inventory_of, inventory_answer, mask_length, in_slot, slot_of, next_slot}
 use Rattle.tag.specs.Step.{Event, end_of_frame, request, line_of, dropped, frame_of, frame_ends, round_ends, work_of, step, run, Stepped}
 use Rattle.tag.proofs.Sealed.{saying, inventory_step}
 use Rattle.tray.specs.Tray.{Request, speaks_in, those, answering, requests_sent, Each, none, more}
@@ -34,7 +33,7 @@ use Rattle.tray.proofs.Frames.{told_inventory, asked_fits, asked_not}
 
 -- a front with a round open in a slot
 abbrev open_at : Front → ℕ → ℕ → Front
-open_at f slot bits = with_round (dropped f) (round.Open slot bits)
+open_at f slot bits = with_round (dropped f) (running slot bits)
 
 module _ (t : Tag) (m : List ℕ) (f : Front) (on : f.field ≡ true) where
   -- the frame
@@ -57,11 +56,7 @@ module _ (t : Tag) (m : List ℕ) (f : Front) (on : f.field ≡ true) where
 module _ (f : Front) (q : Request) where
   said_fits : fits q.mask q.bits f.uid ≡ true → (slot : ℕ) → line_of (in_slot f slot q.bits) ≡ said_in f q slot
   unfolding in_slot slot_of speaks_in
-  said_fits e slot = here (eqb (next_four f.uid q.bits) slot) refl
-    where
-      here : (b : Bool) → eqb (next_four f.uid q.bits) slot ≡ b → line_of (in_slot f slot q.bits) ≡ said_in f q slot
-      here true g = rw (e, g)
-      here false g = rw (e, g)
+  said_fits e slot = grind arith
 
   said_not : fits q.mask q.bits f.uid ≡ false → (slot : ℕ) → [] ≡ said_in f q slot
   unfolding speaks_in
@@ -128,20 +123,20 @@ inventory_comes f x = here (unheard f x) (one_slot x) refl refl
     here true b e g = record { front = f; answer = silence; is = rw e; same = refl }
     here false true e g = record { front = f; answer = inventory_answer f; is = rw (e, g); same = refl }
     here false false e g =
-        record { front = with_round f (round.Open 0 (mask_length x)); answer = in_slot f 0 (mask_length x); is = rw (e, g); same = refl }
+        record { front = with_round f (running 0 (mask_length x)); answer = in_slot f 0 (mask_length x); is = rw (e, g); same = refl }
 
-round_comes : (f : Front) (r : Round) → Comes f (round_ends r f)
+round_comes : (f : Front) (r : Option Round) → Comes f (round_ends r f)
 unfolding next_slot
-round_comes f round.None = record { front = f; answer = silence; is = refl; same = refl }
-round_comes f (round.Open slot mask) = here (ltb slot 15) refl
+round_comes f None = record { front = f; answer = silence; is = refl; same = refl }
+round_comes f (Some o) = here (ltb o.slot 15) refl
   where
-    here : (b : Bool) → ltb slot 15 ≡ b → Comes f (next_slot f slot mask)
-    here true e = record { front = with_round f (round.Open (slot + 1) mask); answer = in_slot f (slot + 1) mask; is = rw e; same = refl }
-    here false e = record { front = with_round f round.None; answer = silence; is = rw e; same = refl }
+    here : (b : Bool) → ltb o.slot 15 ≡ b → Comes f (next_slot f o.slot o.mask)
+    here true e = record { front = with_round f (running (o.slot + 1) o.mask); answer = in_slot f (o.slot + 1) o.mask; is = rw e; same = refl }
+    here false e = record { front = with_round f None; answer = silence; is = rw e; same = refl }
 
-held_comes : (f : Front) (h : Held) → Comes f (frame_ends h f)
-held_comes f held.None = round_comes f f.round
-held_comes f (held.Answer v) = record { front = with_held f held.None; answer = verdict v; is = refl; same = refl }
+held_comes : (f : Front) (h : Option Verdict) → Comes f (frame_ends h f)
+held_comes f None = round_comes f f.round
+held_comes f (Some v) = record { front = with_held f None; answer = verdict v; is = refl; same = refl }
 
 -- the events of a search
 data OfSearch : Event → Type 0 where
@@ -244,28 +239,14 @@ said_then t m before q slot w p h =
 -- ---- a tray
 
 silent_or_not : (f : Front) (q : Request) (slot : ℕ) → is_silence (said_in f q slot) ≡ not (speaks_in q.mask q.bits slot f.uid)
-silent_or_not f q slot = here (speaks_in q.mask q.bits slot f.uid) refl
-  where
-    here : (b : Bool) → speaks_in q.mask q.bits slot f.uid ≡ b → is_silence (said_in f q slot) ≡ not (speaks_in q.mask q.bits slot f.uid)
-    here true e = rw e
-    here false e = rw e
+silent_or_not f q slot = grind arith
 
 tray_speaks : {ps : List Placed} {uids : List ℕ} (before : List Request) (q : Request) (slot : ℕ) → Holds ps uids → Proper q → slot < 16
     → speaking (rounds before ++ up_to q slot) ps ≡ answering uids q.mask q.bits slot
 unfolding speaking those
 tray_speaks before q slot empty p h = refl
 tray_speaks before q slot (another {p = c} {ps} {u} {us} w r) p h =
-    here (speaks_in q.mask q.bits slot u) refl
-    (ap is_silence (said_then c.tag c.memory before q slot w p h) ∙ silent_or_not c.tag.front q slot
-    ∙ ap (λ (x : ℕ). not (speaks_in q.mask q.bits slot x)) w.uid)
-    (tray_speaks before q slot r p h)
-  where
-    here : (b : Bool) → speaks_in q.mask q.bits slot u ≡ b
-        → is_silence (last_of (run c.tag c.memory (rounds before ++ up_to q slot)).answers) ≡ not (speaks_in q.mask q.bits slot u)
-        → speaking (rounds before ++ up_to q slot) ps ≡ answering us q.mask q.bits slot
-        → speaking (rounds before ++ up_to q slot) (c ∷ ps) ≡ answering (u ∷ us) q.mask q.bits slot
-    here true f e r = rw (e, f, w.uid, r)
-    here false f e r = rw (e, f, r)
+    grind (arith, ap is_silence (said_then c.tag c.memory before q slot w p h), silent_or_not c.tag.front q slot, w.uid, tray_speaks before q slot r p h)
 
 -- each of two parts of a list
 each_later : {A : Type 0} {P : A → Type 0} (us : List A) {vs : List A} → Each P (us ++ vs) → Each P vs

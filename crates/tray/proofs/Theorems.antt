@@ -1,16 +1,15 @@
 -- W-201, over the definition: each UID once, in order, and the number of requests.
 -- Assumes nothing.
 use mathlib.Core.Path.{◌≡◌, refl, sym, ◌∙◌}
-use mathlib.Core.Bool.{Bool, true, false}
+use mathlib.Core.Bool.{true, false}
 use mathlib.Core.List.{List, [], ◌∷◌, ◌++◌}
-use Prim.Native.Nat.{ℕ, ◌+◌, ◌^◌, ◌≤◌, ◌<◌}
+use Prim.Native.Nat.{ℕ, ◌^◌, ◌≤◌, ◌<◌}
 use native.Mathlib.Omega.{arith}
 use lib.Dec.{eqb}
 use lib.ListN.{length, drop, take}
 use lib.Seq.{take_at, drop_at}
 use borrow.Author.Tests.{eqb-true, le-ltb}
 use Rattle.std.specs.Prelude.{if◌then◌else◌}
-use Rattle.rights.proofs.Cases.{neither}
 use Rattle.tray.specs.Tray.{search_finds, search_given, is_in, any_equal, times_in, Each, Lists}
 use Rattle.tray.proofs.Weigh.{weigh_length, weigh_times, all_weigh}
 use Rattle.tray.proofs.Order.{found_ascends}
@@ -19,19 +18,12 @@ use Rattle.tray.proofs.Order.{found_ascends}
 pub times_none : (u : ℕ) (us : List ℕ) → is_in u us ≡ false → times_in u us ≡ 0
 unfolding is_in times_in
 times_none u [] e = refl
-times_none u (v ∷ us) e = rw ((neither (eqb u v) _ e).0, times_none u us (neither (eqb u v) _ e).1)
+times_none u (v ∷ us) e = grind (arith, times_none u us)
 
 pub times_one : (u : ℕ) (us : List ℕ) → any_equal us ≡ false → is_in u us ≡ true → times_in u us ≡ 1
 unfolding is_in times_in any_equal
 times_one u [] d e = absurd (let z : ◌≡◌ {A = ℕ} 0 1 = cc in omega arith)
-times_one u (v ∷ us) d e = here (eqb u v) refl (times_one u us (neither (is_in v us) _ d).1)
-  where
-    here : (b : Bool) → eqb u v ≡ b → (is_in u us ≡ true → times_in u us ≡ 1) → (if eqb u v then 1 else 0) + times_in u us ≡ 1
-    here true f r =
-        let q : u ≡ v = eqb-true u v f in
-        let n : is_in u us ≡ false = rw q (neither (is_in v us) _ d).0 in
-        rw (f, times_none u us n)
-    here false f r = rw (f, r (rw f at e))
+times_one u (v ∷ us) d e = grind (arith, eqb-true u v, times_one u us, times_none u us)
 
 module _ (uids : List ℕ) (ok : Each (λ u. u < 2 ^ 64) uids) (differ : any_equal uids ≡ false) where
   -- as many as there are

@@ -14,7 +14,7 @@ use Rattle.std.specs.Prelude.{if◌then◌else◌}
 use Rattle.rights.proofs.Cases.{neither}
 use Rattle.tag.specs.Inventory.{fits}
 use Rattle.tray.specs.Tray.{speaks_in, those, joined, total, longer, heard, found, is_in, any_equal, times_in, Each, none, more}
-use Rattle.tray.proofs.Slots.{speaks_fits, those_same, total_same, total_none, total_add, total_one, longer_below}
+use Rattle.tray.proofs.Slots.{answer_longer, total_same, total_none, total_add, total_one, longer_below}
 
 unfoldable pub weigh : (ℕ → ℕ) → List ℕ → ℕ
 weigh w [] = 0
@@ -47,12 +47,7 @@ module _ (w : ℕ → ℕ) (mask bits : ℕ) where
   one_more : (u : ℕ) (us : List ℕ) (x : ℕ) → fits mask bits u ≡ true
       → weigh w (those (speaks_in mask bits x) (u ∷ us)) ≡ (if eqb (u / 2 ^ bits % 16) x then w u else 0) + weigh w (those (speaks_in mask bits x) us)
   unfolding those speaks_in weigh
-  one_more u us x e = here (eqb (u / 2 ^ bits % 16) x) refl
-    where
-      here : (b : Bool) → eqb (u / 2 ^ bits % 16) x ≡ b
-          → weigh w (those (speaks_in mask bits x) (u ∷ us)) ≡ (if eqb (u / 2 ^ bits % 16) x then w u else 0) + weigh w (those (speaks_in mask bits x) us)
-      here true f = rw (e, f)
-      here false f = rw (e, f) (omega arith)
+  one_more u us x e = grind arith
 
   no_more : (u : ℕ) (us : List ℕ) (x : ℕ) → fits mask bits u ≡ false
       → weigh w (those (speaks_in mask bits x) (u ∷ us)) ≡ weigh w (those (speaks_in mask bits x) us)
@@ -88,20 +83,12 @@ weigh_heard w (u ∷ v ∷ us) again mask bits e = e (omega arith)
 in_those : (test : ℕ → Bool) (u : ℕ) (us : List ℕ) → is_in u us ≡ false → is_in u (those test us) ≡ false
 unfolding those is_in
 in_those test u [] e = e
-in_those test u (v ∷ us) e = here (test v) refl (in_those test u us (neither (eqb u v) _ e).1)
-  where
-    here : (b : Bool) → test v ≡ b → is_in u (those test us) ≡ false → is_in u (those test (v ∷ us)) ≡ false
-    here true f r = rw (f, r, (neither (eqb u v) _ e).0)
-    here false f r = rw f r
+in_those test u (v ∷ us) e = grind (arith, in_those test u us)
 
 differ_those : (test : ℕ → Bool) (us : List ℕ) → any_equal us ≡ false → any_equal (those test us) ≡ false
 unfolding those any_equal
 differ_those test [] e = e
-differ_those test (u ∷ us) e = here (test u) refl (differ_those test us (neither (is_in u us) _ e).1)
-  where
-    here : (b : Bool) → test u ≡ b → any_equal (those test us) ≡ false → any_equal (those test (u ∷ us)) ≡ false
-    here true f r = rw (f, r, in_those test u us (neither _ _ e).0)
-    here false f r = rw f r
+differ_those test (u ∷ us) e = grind (arith, differ_those test us, in_those test u us)
 
 pub each_those : {P : ℕ → Type 0} (test : ℕ → Bool) {us : List ℕ} → Each P us → Each (λ u. P u × (test u ≡ true)) (those test us)
 unfolding those
@@ -122,6 +109,15 @@ pub each_map : {P Q : ℕ → Type 0} → ((u : ℕ) → P u → Q u) → {us : 
 each_map f none = none
 each_map f (more {u} p ps) = more (f u p) (each_map f ps)
 
+-- .. so that a mask of 64 bits fits one at most
+pub apart : (uids : List ℕ) → Each (λ u. u < 2 ^ 64) uids → false ≡ any_equal uids → (mask : ℕ) → length (those (fits mask 64) uids) < 2
+unfolding fits
+apart uids ok differ mask =
+    grind (arith, two_same mask (each_map whole (each_those (fits mask 64) ok)) (differ_those (fits mask 64) uids (sym differ)))
+  where
+    whole : (u : ℕ) → (u < 2 ^ 64) × (fits mask 64 u ≡ true) → u ≡ mask
+    whole u p = sym (mod-eq_of_lt p.0) ∙ eqb-true _ _ p.1
+
 -- ---- the search
 
 -- every UID fits the empty mask
@@ -131,13 +127,6 @@ everyone [] = refl
 everyone (u ∷ us) = let e : u % 1 ≡ 0 = mod-one u in rw (e, everyone us)
 
 module _ (w : ℕ → ℕ) (uids : List ℕ) (ok : Each (λ u. u < 2 ^ 64) uids) (differ : any_equal uids ≡ false) where
-  none_left : (mask : ℕ) → 2 ≤ length (those (fits mask 64) uids) → ⊥
-  unfolding fits
-  none_left mask l = two_same mask (each_map whole (each_those (fits mask 64) ok)) (differ_those (fits mask 64) uids differ) l
-    where
-      whole : (u : ℕ) → (u < 2 ^ 64) × (fits mask 64 u ≡ true) → u ≡ mask
-      whole u p = sym (mod-eq_of_lt p.0) ∙ eqb-true _ _ p.1
-
   node : (k mask bits : ℕ) → mask < 2 ^ bits
       → ((x : ℕ) → x < 16 → 2 ≤ length (those (fits (longer mask bits x) (bits + 4)) uids)
       → weigh w (found k uids (longer mask bits x) (bits + 4)) ≡ weigh w (those (fits (longer mask bits x) (bits + 4)) uids))
@@ -148,14 +137,14 @@ module _ (w : ℕ → ℕ) (uids : List ℕ) (ok : Each (λ u. u < 2 ^ 64) uids)
       slot : (x : ℕ) → 0 ≤ x → x < 0 + 16
           → weigh w (heard (those (speaks_in mask bits x) uids) (found k uids) (longer mask bits x) (bits + 4)) ≡ weigh w (those (speaks_in mask bits x) uids)
       slot x a b =
-          let q : those (speaks_in mask bits x) uids ≡ those (fits (longer mask bits x) (bits + 4)) uids = those_same _ _ (speaks_fits mask bits x m) uids in
+          let q = answer_longer mask bits x m uids in
           weigh_heard w (those (speaks_in mask bits x) uids) (found k uids) (longer mask bits x) (bits + 4)
           (λ l. again x (omega arith) (rw q at l) ∙ ap (weigh w) (sym q))
 
   all_found : (k mask bits : ℕ) → bits + 4 * suc k ≡ 64 → mask < 2 ^ bits → weigh w (found (suc k) uids mask bits) ≡ weigh w (those (fits mask bits) uids)
   all_found zero mask bits e m =
       let b : bits + 4 ≡ 64 = omega arith in
-      node 0 mask bits m (λ x l h. absurd (none_left (longer mask bits x) (rw b at h)))
+      node 0 mask bits m (λ x l h. absurd (omega (arith, rw b at h, apart uids ok (sym differ) (longer mask bits x))))
   all_found (suc k) mask bits e m = node (suc k) mask bits m (λ x l h. all_found k (longer mask bits x) (bits + 4) (omega arith) (longer_below mask bits x m l))
 
   pub all_weigh : weigh w (found 16 uids 0 0) ≡ weigh w uids

@@ -1,7 +1,8 @@
 -- W-201, "Finding every tag on a tray." Quoted words are document 02's where nothing else is said. A tag is its UID, "all Ready and given by their
 -- UIDs"; what a tag of document 01 says to these requests is in Tags.
 -- Assumes nothing.
-use Rattle.std.specs.Prelude.{◌≡◌, ℕ, zero, suc, ◌+◌, ◌*◌, ◌^◌, ◌<◌, Bool, true, false, ◌&&◌, ◌||◌, List, [], ◌∷◌, ◌++◌, length, take, drop, leb, ltb, eqb, if◌then◌else◌}
+use Rattle.std.specs.Prelude.{◌≡◌, ℕ, zero, suc, ◌+◌, ◌*◌, ◌^◌, ◌<◌, Bool, true, false, ◌&&◌, ◌||◌, List, [], ◌∷◌, ◌++◌, length, take, drop, leb, ltb, eqb, if◌then◌else◌, Result, Ok, Err}
+use Rattle.record.specs.declared.Refusal.{Refusal}
 use Rattle.tag.specs.Inventory.{low_bits, next_four, fits}
 
 -- ---- one request
@@ -93,6 +94,11 @@ pub record SearchGiven : Type 0 where
 
 abbrev pub given : ℕ → ℕ → List ℕ → SearchGiven
 given number requests list = record { number = number; requests = requests; list = list }
+
+-- what is returned: the number of requests, or a refusal, of which none is sent
+abbrev pub requests_in : Result ℕ Refusal → ℕ
+requests_in (Ok n) = n
+requests_in (Err r) = 0
 
 -- "Refusals: 6 for more than 256 tags, then 7 if two UIDs are equal, then 18 if the list's room is too small for all; the list is unchanged
 -- and the number is 0." The UIDs found fill the first entries of the room, and the rest stays

@@ -2,171 +2,164 @@
 // what it finds and sends, specs/Tags.antt what the tags of document 01 say to it. Quoted words are document 02's.
 #![tactic(auto)]
 
-ghost use Rattle.std.specs.Prelude.{◌≡◌, ◌<◌, get_or};
+ghost use Rattle.std.specs.List.{list_any};
+ghost use Rattle.std.specs.Prelude.{IfSome, ◌==◌, ◌≡◌, ℕ, ◌<◌, ◌≤◌, ◌+◌, ◌%◌, ◌^◌, find, length};
+ghost use Rattle.std.specs.Result.{result_err};
 ghost use Rattle.tag.specs.Host.{number_of};
-ghost use Rattle.tag.specs.Inventory.{low_bits, next_four, fits};
-ghost use Rattle.tray.specs.Tray.{those, longer, is_in, any_equal, given, search_given};
-ghost use Rattle.tray.specs.Steps.{Counted, Listened, Grows, Asks, Asked, AsksSlot, AskedSlot};
+ghost use Rattle.tag.specs.Inventory.{fits};
+ghost use Rattle.tray.specs.Tray.{speaks_in, those, longer, any_equal, given, requests_in, search_given};
+ghost use Rattle.tray.specs.Steps.{slot_in, Listened, Asks, Asked, AsksSlot, AskedSlot};
 
 use record::Refusal;
 
-// How many UIDs were written to the room that was lent, and how many requests were sent.
+// "The search asks with 16 slots"
+const SLOTS: usize = 16;
+
+// How many UIDs were written to the start of the room that was lent, and how many requests were sent. The list is the caller's room, and the count goes
+// beside it, since nothing here may use a heap.
 #[derive(Clone, Copy)]
-pub struct Found {
-    pub count: usize,
-    pub requests: u32,
+struct Found {
+    count: usize,
+    requests: u32,
 }
 
-// "The result gives the number of Inventory requests sent": 0 where the search is refused.
+// The mask of a request: a number of so many bits. Document 01: 16 slots, "at most 60".
 #[derive(Clone, Copy)]
-pub struct Searched {
-    pub refusal: Refusal,
-    pub requests: u32,
+struct Mask {
+    value: u64,
+    bits: u32,
+    ghost short: { bits ≤ 60 },
+    ghost groups: { bits % 4 ≡ 0 },
+    ghost low: { value < 2 ^ bits },
 }
 
-// The lowest bits of a number, so many.
-fn low_bits(n: u64, bits: u64) -> u64
-    ensures { result ≡ low_bits n bits }
-{
-    if bits < 64 {
-        return n % (1 << bits);
-    }
-    n
-}
-
-// The four bits after them.
-fn next_four(n: u64, bits: u64) -> u64
-    requires { bits < 64 }
-    ensures { result ≡ next_four n bits }
-{
-    n / (1 << bits) % 16
-}
-
-// The answers to a request are counted in one number, a slot's in the four bits that have the slot's number: one more in a slot. Four bits hold no
-// more than 15.
-fn one_more(tally: u64, slot: u64) -> u64
-    requires { slot < 16 }
-    ensures { Counted tally slot result }
-{
-    if next_four(tally, 4 * slot) == 15 {
-        return tally;
-    }
-    tally + (1 << (4 * slot))
-}
-
-// Each tag hears a request once: how many answer in each slot. Document 01: "The lowest mask-length bits of the UID must match", "the next four UID bits
-// are the slot"
-fn listen(uids: &[u64], mask: u64, bits: u64) -> u64
-    requires { bits < 64 }
-    ensures { Listened uids.now mask bits result }
-{
-    let mut tally: u64 = 0;
-    let mut i = 0;
-    while i < uids.len() {
-        let uid = uids[i];
-        if low_bits(uid, bits) == mask {
-            tally = one_more(tally, next_four(uid, bits));
+impl Mask {
+    // The slot in which a UID answers, if it does. Document 01: "The lowest mask-length bits of the UID must match", "the next four UID bits are the
+    // slot"
+    fn slot_of(self, uid: u64) -> Option<usize>
+        ensures value { result ≡ slot_in self.value self.bits uid }
+        ensures below { IfSome result (λ slot. slot < 16) }
+    {
+        if uid % (1 << self.bits) == self.value {
+            Some((uid >> self.bits) as usize % SLOTS)
+        } else {
+            None
         }
-        i += 1;
     }
-    tally
 }
 
-// The first UID that a mask of so many bits fits, and 0 where it fits none.
-fn the_one(uids: &[u64], mask: u64, bits: u64) -> u64
-    ensures { result ≡ get_or (those (fits mask bits) uids.now) 0 0 }
-{
-    let mut i = 0;
-    while i < uids.len() {
-        let uid = uids[i];
-        if low_bits(uid, bits) == mask {
-            return uid;
+// One slot of the request with a mask.
+#[derive(Clone, Copy)]
+struct Slot {
+    mask: Mask,
+    number: usize,
+    ghost below: { number < 16 },
+}
+
+impl Slot {
+    // Whether a UID answers in it: whether its lowest bits are the mask and, above it, the slot's four bits. `mask.slot_of(uid) == Some(number)` was
+    // tried: a search of UIDs in a row then takes 3.3 times plain C's instructions, and the bar is 2.5.
+    fn hears(self, uid: u64) -> bool
+        ensures { result ≡ speaks_in self.mask.value self.mask.bits self.number uid }
+    {
+        let compared = u64::MAX >> (60 - self.mask.bits);
+        uid & compared == ((self.number as u64) << self.mask.bits) + self.mask.value
+    }
+
+    // ".. the mask longer by that slot's four bits"
+    fn longer(self) -> Mask
+        requires { self.mask.bits ≤ 56 }
+        ensures value { result.value ≡ longer self.mask.value self.mask.bits self.number }
+        ensures bits { result.bits ≡ self.mask.bits + 4 }
+    {
+        Mask {
+            value: ((self.number as u64) << self.mask.bits) + self.mask.value,
+            bits: self.mask.bits + 4,
         }
-        i += 1;
     }
-    0
 }
 
-// ".. the mask longer by that slot's four bits"
-fn longer_mask(mask: u64, bits: u64, slot: u64) -> u64
-    requires { Grows mask bits slot }
-    ensures { result ≡ longer mask bits slot }
-{
-    slot * (1 << bits) + mask
+// A tray that is searched: "up to 256 simulated tags", by their UIDs, of which no two are equal.
+#[derive(Drop)]
+struct Tray<'a> {
+    uids: &'a [u64],
+    ghost few: { length uids.now ≤ 256 },
+    ghost differ: { (mask : ℕ) → length (those (fits mask 64) uids.now) < 2 },
 }
 
-// "The search asks with 16 slots": one request, and those that follow from it. `left` groups of four bits are above the mask: the 64 bits of a UID less
-// the mask's length, which fall by four from one level to the next, so that there are at most 16 of them.
-#[cycle(ask_in_slot)]
-fn ask(uids: &[u64], mask: u64, bits: u64, left: u8, out: &mut [u64]) -> Found
-    requires { Asks uids.now mask bits left out.old }
-    ensures { Asked uids.now mask bits left out.old out.new result.count result.requests }
-{
-    if left == 0 {
-        return Found {
+impl Tray<'_> {
+    // Each tag hears a request once: how many answer in each slot.
+    fn listen(&self, mask: Mask) -> [u16; SLOTS]
+        ensures { Listened self.now.uids.now mask.value mask.bits result }
+    {
+        let mut tally = [0; SLOTS];
+        for &uid in self.uids {
+            if let Some(slot) = mask.slot_of(uid) {
+                tally[slot] += 1;
+            }
+        }
+        tally
+    }
+
+    // The first tag that answers in a slot.
+    fn first_in(&self, slot: Slot) -> Option<u64>
+        ensures { result ≡ find (speaks_in slot.mask.value slot.mask.bits slot.number) self.now.uids.now }
+    {
+        self.uids.iter().copied().find(|&uid| slot.hears(uid))
+    }
+
+    // "The search asks with 16 slots": one request, and those that follow from it, slot after slot.
+    #[cycle(ask_in_slot)]
+    fn ask(&self, out: &mut [u64], mask: Mask) -> Found
+        requires { Asks self.now.uids.now mask.value mask.bits out.old }
+        ensures { Asked self.now.uids.now mask.value mask.bits out.old out.new result.count result.requests }
+    {
+        let mut found = Found {
             count: 0,
-            requests: 0,
+            requests: 1,
         };
+        let tally = self.listen(mask);
+        for (number, &answers) in tally.iter().enumerate() {
+            let more = self.in_slot(&mut out[found.count..], Slot { mask, number }, answers);
+            found.count += more.count;
+            found.requests += more.requests;
+        }
+        found
     }
-    let tally = listen(uids, mask, bits);
-    let mut at: usize = 0;
-    let mut requests: u32 = 1;
-    let mut slot: u64 = 0;
-    while slot < 16 {
-        let got = in_slot(uids, mask, bits, left - 1, slot, tally, &mut out[at..]);
-        at += got.count;
-        requests += got.requests;
-        slot += 1;
-    }
-    Found {
-        count: at,
-        requests,
+
+    // One slot of a request, with the answers in it counted: "a slot with two or more answers is a collision, and the search goes again with the mask
+    // longer by that slot's four bits".
+    #[cycle(ask_in_slot)]
+    fn in_slot(&self, out: &mut [u64], slot: Slot, answers: u16) -> Found
+        requires { AsksSlot self.now.uids.now slot.mask.value slot.mask.bits slot.number answers out.old }
+        ensures { AskedSlot self.now.uids.now slot.mask.value slot.mask.bits slot.number out.old out.new result.count result.requests }
+    {
+        match answers {
+            0 => Found {
+                count: 0,
+                requests: 0,
+            },
+            1 => {
+                out[0] = self.first_in(slot).unwrap();
+                Found {
+                    count: 1,
+                    requests: 0,
+                }
+            }
+            _ => self.ask(out, slot.longer()),
+        }
     }
 }
 
-// One slot of a request, with the answers to it counted, and `above` groups of four bits above the slot's: "a slot with two or more answers is a collision,
-// and the search goes again with the mask longer by that slot's four bits". A tag that answers alone is the one that the longer mask fits.
-#[cycle(ask_in_slot)]
-fn in_slot(
-    uids: &[u64],
-    mask: u64,
-    bits: u64,
-    above: u8,
-    slot: u64,
-    tally: u64,
-    out: &mut [u64],
-) -> Found
-    requires { AsksSlot uids.now mask bits above slot tally out.old }
-    ensures { AskedSlot uids.now mask bits above slot out.old out.new result.count result.requests }
-{
-    let answers = next_four(tally, 4 * slot);
-    if answers == 0 {
-        return Found {
-            count: 0,
-            requests: 0,
-        };
-    }
-    let longer = longer_mask(mask, bits, slot);
-    if answers < 2 {
-        out[0] = the_one(uids, longer, bits + 4);
-        return Found {
-            count: 1,
-            requests: 0,
-        };
-    }
-    ask(uids, longer, bits + 4, above, out)
-}
-
-// Whether a UID is one of these.
+// Whether a UID is one of these. `contains` and `any` were tried: for 16 tags and no room they take 1.26 and 1.21 times plain C's instructions, and the
+// bar is 1.1.
 fn is_in(uid: u64, uids: &[u64]) -> bool
-    ensures { result ≡ is_in uid uids.now }
+    ensures { result ≡ list_any (λ v. uid == v) uids.now }
 {
-    let mut i = 0;
-    while i < uids.len() {
-        if uid == uids[i] {
+    for other in uids {
+        if uid == *other {
             return true;
         }
-        i += 1;
     }
     false
 }
@@ -175,44 +168,29 @@ fn is_in(uid: u64, uids: &[u64]) -> bool
 fn any_equal(uids: &[u64]) -> bool
     ensures { result ≡ any_equal uids.now }
 {
-    let mut i = 0;
-    while i < uids.len() {
-        let next = i + 1;
-        if is_in(uids[i], &uids[next..]) {
+    for (i, uid) in uids.iter().enumerate() {
+        if is_in(*uid, &uids[i + 1..]) {
             return true;
         }
-        i = next;
     }
     false
 }
 
-// A search that is refused.
-fn refuse(refusal: Refusal) -> Searched
-    ensures { (result.refusal ≡ refusal) × (result.requests ≡ 0) }
-{
-    Searched {
-        refusal,
-        requests: 0,
-    }
-}
-
 // The search: "list each UID once, in ascending order of the UID's four-bit groups taken from the lowest", where the list stands. "6 for more than 256
-// tags" comes before any UID is read.
-pub fn search(uids: &[u64], list: &mut [u64]) -> Searched
-    ensures { given (number_of result.refusal) result.requests list.new ≡ search_given uids.now list.old }
+// tags" comes before any UID is read. "The result gives the number of Inventory requests sent".
+pub fn search(uids: &[u64], list: &mut [u64]) -> Result<u32, Refusal>
+    ensures { given (number_of (result_err result)) (requests_in result) list.new ≡ search_given uids.now list.old }
 {
     if 256 < uids.len() {
-        return refuse(Refusal::Tags);
+        return Err(Refusal::Tags);
     }
     if any_equal(uids) {
-        return refuse(Refusal::Equal);
+        return Err(Refusal::Equal);
     }
     if list.len() < uids.len() {
-        return refuse(Refusal::Small);
+        return Err(Refusal::Small);
     }
-    let f = ask(uids, 0, 0, 16, list);
-    Searched {
-        refusal: Refusal::None,
-        requests: f.requests,
-    }
+    let tray = Tray { uids };
+    let found = tray.ask(list, Mask { value: 0, bits: 0 });
+    Ok(found.requests)
 }

@@ -4,31 +4,12 @@ use Prim.Native.Nat.{ℕ, ◌+◌, ◌-◌, ◌*◌}
 use mathlib.Core.Path.{◌≡◌, ◌∙◌}
 use lib.ListN.{length-take, length-drop, length-set}
 use Rattle.put.proofs.Lists.{put_after}
-use Rattle.put.proofs.Proves.{proves}
 use native.Mathlib.Omega.{arith}
 use Rattle.blocks.proofs.put_block.Goals as goal
 
 -- `&mem[at..at + 4]` is the four bytes that are shown
 four : (b : ℕ) → 4 * b + 4 - 4 * b ≡ 4
 four b = omega arith
-
-pub overflow_mul-at : goal.overflow_mul-at
-overflow_mul-at c = search proves
-
-pub overflow_add-bytes : goal.overflow_add-bytes
-overflow_add-bytes c = search proves
-
-pub slice_bounds-bytes-count : goal.slice_bounds-bytes-count
-slice_bounds-bytes-count c = search proves
-
-pub slice_bounds-bytes-start : goal.slice_bounds-bytes-start
-slice_bounds-bytes-start c = search proves
-
-pub slice_bounds-bytes-end : goal.slice_bounds-bytes-end
-slice_bounds-bytes-end c = search proves
-
-pub status-requires : goal.status-requires
-status-requires c = search proves
 
 pub bounds-out-0 : goal.bounds-out-0
 bounds-out-0 c = omega (arith, rw c.if-status.true at c.requires.else_in_bounds)
@@ -39,26 +20,19 @@ slice_bounds-copy-count c = simp length-set (omega (arith, rw c.if-status.true a
 pub slice_bounds-copy-start : goal.slice_bounds-copy-start
 slice_bounds-copy-start c = simp length-set (omega (arith, rw c.if-status.true at c.requires.else_in_bounds))
 
-pub slice_bounds-copy-end : goal.slice_bounds-copy-end
-slice_bounds-copy-end c = search proves
-
 pub copy-requires : goal.copy-requires
 copy-requires c = simp (length-take, length-drop, length-set) (omega (arith, rw c.if-status.true at c.requires.else_in_bounds))
-
-pub overflow_add-result : goal.overflow_add-result
-overflow_add-result c = search proves
 
 pub shape_of-out-then-status : goal.shape_of-out-then-status
 shape_of-out-then-status c = c.out-1.given.1 ∙ simp length-set
 
 pub returns-then-status : goal.returns-then-status
-returns-then-status c = rw (c.if-status.true, ← c.status.ensures) (put_after c.status.result (omega (arith, rw c.if-status.true at c.requires.else_in_bounds)) (rw four at c.copy.ensures))
+returns-then-status c =
+    rw (c.if-status.true, ← c.status.ensures)
+    (put_after c.status.result (omega (arith, rw c.if-status.true at c.requires.else_in_bounds)) (rw four at c.copy.ensures))
 
 pub copy-requires-2 : goal.copy-requires-2
 copy-requires-2 c = simp (length-take, length-drop) (omega (arith, rw c.if-status.false at c.requires.else_in_bounds))
-
-pub shape_of-out : goal.shape_of-out
-shape_of-out c = search proves
 
 pub returns : goal.returns
 returns c = rw c.if-status.false (rw four at c.copy-2.ensures)

@@ -6,7 +6,6 @@ use Rattle.put.proofs.Written.{Written}
 use Rattle.blocks.proofs.read_statuses.Given as goal
 
 abbrev pub invariant-loop-n : goal.invariant-loop-n
-invariant-loop-n l = Written (statuses l.v l.limit l.first l.count) (statuses l.v l.limit (l.first + l.n) (l.count - l.n)) l.initial.out l.out l.n
-
-abbrev pub decreases-loop-n : goal.decreases-loop-n
-decreases-loop-n l = l.count - l.n
+invariant-loop-n l =
+    let r = l.run in
+    Written (statuses l.v r.limit r.first r.count) (statuses l.v r.limit (r.first + l.n) (r.count - l.n)) l.initial.out l.out l.n

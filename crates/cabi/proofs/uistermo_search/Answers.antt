@@ -1,17 +1,14 @@
 -- `cabi::uistermo_search` meets its contract: number and requests of `tray::search`, as one result.
 -- Assumes nothing.
 use native.Mathlib.Omega.{arith}
-use Rattle.cabi.proofs.Left.{number_most, search_by}
+use Rattle.std.specs.Prelude.{Ok, Err}
+use Rattle.cabi.proofs.Left.{search_by}
 use Rattle.cabi.proofs.uistermo_search.Goals as goal
 
--- a refusal's number is small
-pub overflow_mul-result : goal.overflow_mul-result
-overflow_mul-result c = omega (arith, number_most c.search-s.result.refusal, c.number.ensures)
+-- the number of requests
+pub returns-in-Ok : goal.returns-in-Ok
+returns-in-Ok c = search_by _ _ (Ok c.in-Ok.requests) c.in-Ok.ensures (omega arith)
 
--- and the requests have 32 bits
-pub overflow_add-result : goal.overflow_add-result
-overflow_add-result c = omega (arith, number_most c.search-s.result.refusal, c.number.ensures)
-
--- so that the result is made of both
-pub returns : goal.returns
-returns c = search_by _ _ c.search-s.ensures (omega (arith, c.number.ensures))
+-- or the refusal
+pub returns-in-Err : goal.returns-in-Err
+returns-in-Err c = search_by _ _ (Err c.in-Err.refusal) c.in-Err.ensures c.refused.ensures

@@ -1,70 +1,35 @@
--- `put::copy_all` meets its contract: what stands in `out` so far is written (`Written`), in parts of 512 bytes and then the rest.
+-- `put::copy_all` meets its contract: parts of 512 bytes are copied, and then the rest.
 -- Assumes nothing.
-use Prim.Native.Nat.{◌+◌, ◌-◌}
-use mathlib.Core.Path.{◌≡◌, refl}
 use native.Mathlib.Omega.{arith}
-use lib.ListN.{drop, length-drop}
-use lib.Seq.{length-take-le}
-use Rattle.put.proofs.Lists.{tail_room}
-use Rattle.put.proofs.Written.{none, put_part, left, room, more, put_left}
+use mathlib.Core.Path.{◌≡◌, refl}
+use Prim.Native.Nat.{◌+◌, ◌-◌, ◌*◌, ◌/◌}
+use mathlib.Core.List.{[], ◌++◌}
+use lib.ListN.{length, get_or, take, drop}
+use Rattle.put.proofs.Lists.{tail, chunk_at, copied, all_copied}
 use Rattle.put.proofs.copy_all.Goals as goal
 
--- at the start nothing is written
-pub loop-i-init : goal.loop-i-init
-loop-i-init c = (none c.requires, omega arith)
-
--- i is within src
-pub overflow_sub-src : goal.overflow_sub-src
-overflow_sub-src c = omega arith
-
--- the part begins within src
-pub slice_bounds-copy_part-count : goal.slice_bounds-copy_part-count
-slice_bounds-copy_part-count c = omega arith
-
--- and within out
-pub slice_bounds-copy_part-count-in-loop-i : goal.slice_bounds-copy_part-count-in-loop-i
-slice_bounds-copy_part-count-in-loop-i c = c.loop-i.invariant.0.within
-
--- a part has 512 bytes, and there is room for it
-pub copy_part-requires : goal.copy_part-requires
-copy_part-requires c =
-    let at = c.loop-i in
-    let src = c.args.src.now in
-    let size : at.i + 512 - at.i ≡ 512 = omega arith in record {
-      src_len = rw size (length-take-le 512 (drop at.i src) (simp length-drop (omega arith)));
-      in_bounds = tail_room at.out at.i 512
-          (omega (arith, at.invariant.0.same, at.invariant.0.fits));
-    }
-
--- what is left of src is less
-pub loop-i-smaller : goal.loop-i-smaller
-loop-i-smaller c = omega arith
-
--- the part is written after what was
+-- a part more
 pub loop-i-preserved : goal.loop-i-preserved
 loop-i-preserved c =
-    let at = c.loop-i in
-    let size : at.i + 512 - at.i ≡ 512 = omega arith in
-    (put_part 512 at.invariant.0 (rw size) (omega arith) c.copy_part.ensures, omega arith)
+    let src = c.args.src.now in
+    let i = c.loop-i.i in
+    let next : 512 * (i + 1) ≡ 512 * i + 512 = omega arith in
+    let count : length c.as_chunks.result.0.now ≡ length src / 512 = c.as_chunks.ensures.front_len in
+    let part : get_or c.as_chunks.result.0.now i [] ≡ take 512 (drop (512 * i) src) =
+    rw c.as_chunks.ensures.front (chunk_at 512 (length src / 512) i src (omega arith)) in
+    rw next (copied src c.args.out.now c.loop-i.out _ c.copy_part.new.out (512 * i) 512 c.loop-i.invariant (omega arith) c.requires part c.copy_part.ensures)
 
--- what is left begins within src
-pub slice_bounds-copy-count : goal.slice_bounds-copy-count
-slice_bounds-copy-count c = omega arith
-
--- and within out
-pub slice_bounds-copy-count-2 : goal.slice_bounds-copy-count-2
-slice_bounds-copy-count-2 c = c.loop-i.invariant.0.within
-
--- there is room for what is left
-pub copy-requires : goal.copy-requires
-copy-requires c = room (left c.loop-i.invariant.0)
-
--- out is as long as it was
-pub shape_of-out : goal.shape_of-out
-shape_of-out c = (more (left c.loop-i.invariant.0) c.copy.ensures).same
-
--- with what was left, all is written
+-- the rest
 pub returns : goal.returns
 returns c =
-    let all = put_left c.loop-i.invariant.0 c.copy.ensures in
-    record { count = refl; is = all.is }
+    let src = c.args.src.now in
+    let was = c.args.out.now in
+    let at = 512 * length c.as_chunks.result.0.now in
+    let left = length src - at in
+    let count : length c.as_chunks.result.0.now ≡ length src / 512 = c.as_chunks.ensures.front_len in
+    let parts : c.loop-i.i ≡ length c.as_chunks.result.0.now = omega arith in
+    let cut : length src / 512 * 512 ≡ at = omega arith in
+    let rest : c.as_chunks.result.1.now ≡ take left (drop at src) = rw (tail src at) (rw cut at c.as_chunks.ensures.back) in
+    let so_far : c.loop-i.out ≡ take at src ++ drop at was = rw parts at c.loop-i.invariant in
+    let whole = copied src was c.loop-i.out _ c.copy.new.out at left so_far (omega arith) c.requires rest c.copy.ensures in
+    all_copied src was _ (at + left) _ whole (omega arith) refl

@@ -1,17 +1,7 @@
--- `put::fill` meets its contract: as many bytes as were passed are filled, and at the end all are.
+-- `put::fill` meets its contract: as many bytes as were passed are the value.
 -- Assumes nothing.
-use mathlib.Core.List.{List}
-use Prim.Native.Nat.{ℕ, ◌-◌}
-use lib.ListN.{length, drop, replicate}
-use Rattle.put.proofs.Written.{Written}
+use Rattle.std.proofs.Common.{◌≡◌, ◌++◌, drop, replicate}
 use Rattle.put.proofs.fill.Given as goal
 
--- the buffer when all of it is filled
-abbrev pub filled : List ℕ → ℕ → List ℕ
-filled s value = replicate (length s) value
-
-abbrev pub invariant-loop-i : goal.invariant-loop-i
-invariant-loop-i l = Written (filled l.initial.out l.value) (drop l.i (filled l.initial.out l.value)) l.initial.out l.out l.i
-
-abbrev pub decreases-loop-i : goal.decreases-loop-i
-decreases-loop-i l = length l.initial.out - l.i
+abbrev pub invariant-loop-byte : goal.invariant-loop-byte
+invariant-loop-byte l = l.byte-items ≡ replicate l.byte-index l.value ++ drop l.byte-index l.fn.out

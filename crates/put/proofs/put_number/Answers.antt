@@ -1,21 +1,22 @@
--- `put::put_number` meets its contract. The loop's invariant: what is written, and the bytes of the rest of the number, are all its bytes.
+-- `put::put_number` meets its contract: what is written, and the bytes of the rest of the number, are all its bytes.
 -- Assumes nothing.
 use native.Mathlib.Omega.{arith}
-use Rattle.put.proofs.Written.{sum, store}
-use Rattle.put.proofs.Numbers.{no_bytes, lowest, all_bytes}
+use mathlib.Core.Path.{◌≡◌, sym}
+use lib.ListN.{length, take}
+use lib.Seq.{length-take-le}
+use Rattle.put.specs.Number.{bytes_of}
+use Rattle.put.proofs.Numbers.{one_more, all_of, length_bytes}
 use Rattle.put.proofs.put_number.Goals as goal
 
-pub loop-i-init : goal.loop-i-init
-loop-i-init c = no_bytes _ _ _ c.requires
+-- one byte more
+pub loop-byte-preserved : goal.loop-byte-preserved
+loop-byte-preserved c =
+    let size : length (take c.args.width c.args.out.now) ≡ c.args.width = length-take-le _ _ c.requires in
+    one_more _ _ _ _ _ c.loop-byte.invariant (omega arith) (omega arith)
 
-pub bounds-out-i : goal.bounds-out-i
-bounds-out-i c = omega (arith, sum (lowest _ _ c.loop-i.invariant c.loop-i-test.true))
-
-pub loop-i-preserved : goal.loop-i-preserved
-loop-i-preserved c = store _ (lowest _ _ c.loop-i.invariant c.loop-i-test.true)
-
-pub shape_of-out : goal.shape_of-out
-shape_of-out c = c.loop-i.invariant.same
-
+-- all are written
 pub returns : goal.returns
-returns c = all_bytes _ _ c.loop-i.invariant c.loop-i-test.false
+returns c =
+    let size : length (take c.args.width c.args.out.now) ≡ c.args.width = length-take-le _ _ c.requires in
+    let long : length (bytes_of c.args.width c.args.n) ≡ c.args.width = length_bytes c.args.width c.args.n in
+    rw (all_of _ _ _ _ _ c.loop-byte.invariant (omega arith) (omega arith)) (record { count = sym long; is = rw long })

@@ -4,52 +4,38 @@ use mathlib.Core.Bool.{false}
 use Rattle.put.proofs.If.{if_true, if_false}
 use Rattle.step.proofs.Acts.{quiet, field_on_lem, field_off_lem}
 use Rattle.tag.specs.Step.{work_of, step}
-use native.Mathlib.Omega.{arith}
 use Rattle.step.proofs.take_event.Goals as goal
-
--- an Inventory's answer has room
-pub end_frame-requires : goal.end_frame-requires
-end_frame-requires c = omega (arith, c.requires.in_bounds)
-
--- the field is on: the end of the frame
-pub returns-then-f : goal.returns-then-f
-unfolding step work_of
-returns-then-f c =
-    rw (c.in-EndOfFrame.is, if_true _ _ c.if-f.true) (c.end_frame.ensures c.args.memory.now)
-
--- so has every answer, and the memory is of a size
-pub take_frame-requires : goal.take_frame-requires
-take_frame-requires c = record { memory_value = c.requires.memory_value; in_bounds = c.requires.in_bounds }
-
--- the field is on: the frame, once round and held answer are dropped
-pub returns-then-f-2 : goal.returns-then-f-2
-unfolding step work_of
-returns-then-f-2 c =
-    rw (c.in-Request.is, if_true _ _ c.if-f-2.true)
-    (rw c.drop_round.ensures at c.take_frame.ensures)
+use Rattle.step.proofs.take_event.Goals.{in-EndOfFrame+else-t, in-Request+else-t-2}
 
 -- the field comes on
 pub returns-in-FieldOn : goal.returns-in-FieldOn
 returns-in-FieldOn c =
     let a = c.args in
-    rw (c.in-FieldOn.is, c.field_on.ensures) (field_on_lem a.t a.memory.now _)
+    rw (c.in-FieldOn.is, c.silent.ensures, c.field_on.ensures) (field_on_lem a.t a.memory.now _)
 
--- the field goes off
+-- it goes off
 pub returns-in-FieldOff : goal.returns-in-FieldOff
 returns-in-FieldOff c =
     let a = c.args in
-    rw (c.in-FieldOff.is, c.power.ensures) (field_off_lem a.t a.memory.now _)
+    rw (c.in-FieldOff.is, c.silent-in-FieldOff.ensures, c.power.ensures) (field_off_lem a.t a.memory.now _)
 
--- the field is off: the end of a frame is nothing
-pub returns-else-f : goal.returns-else-f
+-- it is on: the end of the frame
+pub returns-in-EndOfFrame : goal.returns-in-EndOfFrame
 unfolding step work_of
-returns-else-f c =
-    let a = c.args in
-    rw (c.in-EndOfFrame.is, if_false _ _ c.if-f.false) (quiet false a.t a.memory.now)
+returns-in-EndOfFrame c = rw (c.in-EndOfFrame.is, if_true _ _ c.if-t.true) (c.end_frame.ensures c.args.memory.now)
 
--- and so is a frame
-pub returns-else-f-2 : goal.returns-else-f-2
+-- and the frame, once round and held answer are dropped
+pub returns-in-Request : goal.returns-in-Request
 unfolding step work_of
-returns-else-f-2 c =
-    let a = c.args in
-    rw (c.in-Request.is, if_false _ _ c.if-f-2.false) (quiet false a.t a.memory.now)
+returns-in-Request c =
+    rw (c.in-Request.is, if_true _ _ c.if-t-2.true) (rw c.drop_round.ensures at c.take_frame.ensures)
+
+-- it is off: both are nothing
+pub returns-in-EndOfFrame-2 : goal.returns-in-EndOfFrame-2
+unfolding step work_of
+returns-in-EndOfFrame-2 c =
+    let nothing = quiet false c.args.t c.args.memory.now in
+    elim c.in-EndOfFrame-2-1.branch [
+      | in-EndOfFrame+else-t w ↦ rw (w.in-EndOfFrame.is, if_false _ _ w.if-t.false, c.silent-in-EndOfFrame-2.ensures) nothing
+      | in-Request+else-t-2 w ↦ rw (w.in-Request.is, if_false _ _ w.if-t-2.false, c.silent-in-EndOfFrame-2.ensures) nothing
+    ]

@@ -1,18 +1,14 @@
--- `text::all_digits` meets its contract: what is left to look at gives the answer of the whole.
+-- `text::all_digits` meets its contract: the test of each byte is the definition's.
 -- Assumes nothing.
-use mathlib.Core.Path.{refl, sym, ◌∙◌}
-use borrow.Author.Tests.{not-true, not-false}
-use Rattle.text.proofs.Texts.{no_digit, a_digit, no_more}
+use borrow.Author.Rules.{rules}
+use Rattle.std.proofs.lemmas.Iterator.{YieldsList-from_slice}
+use Rattle.std.proofs.lemmas.Iterator.Search.{all_from_yields_List}
+use Rattle.text.specs.Text.{is_digit}
+use Rattle.text.proofs.Texts.{all_as_list}
 use Rattle.text.proofs.all_digits.Goals as goal
 
-pub loop-i-init : goal.loop-i-init
-loop-i-init c = refl
-
-pub returns-then-not-is_digit : goal.returns-then-not-is_digit
-returns-then-not-is_digit c = sym (no_digit _ _ c.loop-i-test.true (sym c.is_digit.ensures ∙ not-true _ c.if-not-is_digit.true-raw)) ∙ c.loop-i.invariant
-
-pub loop-i-preserved : goal.loop-i-preserved
-loop-i-preserved c = sym (a_digit _ _ c.loop-i-test.true (sym c.is_digit.ensures ∙ not-false _ c.if-not-is_digit.false-raw)) ∙ c.loop-i.invariant
-
+-- the chain's answer, in the words of the library
 pub returns : goal.returns
-returns c = sym (no_more _ _ c.loop-i-test.false) ∙ c.loop-i.invariant
+returns c =
+    let s = c.args.s.now in
+    rw (all_as_list s) (all_from_yields_List (λ d. is_digit d) _ _ _ c.all.ensures.ran (YieldsList-from_slice s (cc)) (λ x b q called. search rules))

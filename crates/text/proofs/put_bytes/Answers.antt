@@ -1,33 +1,26 @@
--- `text::put_bytes` meets its contract: what is written, and the bytes of the digits that are left, are all the bytes.
+-- `text::put_bytes` meets its contract: the bytes of as many pairs as were passed are written.
 -- Assumes nothing.
-use Prim.Native.Nat.{◌+◌}
-use lib.ListN.{get_or}
-use Rattle.put.proofs.Written.{none, sum}
-use Rattle.text.proofs.Texts.{value_most, pair, pairs_end}
-use Rattle.text.proofs.Pieces.{stored}
 use native.Mathlib.Omega.{arith}
+use mathlib.Core.Path.{◌≡◌, sym}
+use Prim.Native.Nat.{◌/◌, ◌<◌}
+use Rattle.std.specs.Simd.{first_chunks}
+use lib.ListN.{length}
+use Rattle.text.proofs.Pieces.{put_front}
+use Rattle.text.proofs.Texts.{bytes_count, pair_put, all_pairs}
 use Rattle.text.proofs.put_bytes.Goals as goal
 
-pub loop-i-init : goal.loop-i-init
-loop-i-init c = (omega arith, none c.requires)
-
-pub overflow_mul-out : goal.overflow_mul-out
-overflow_mul-out c = omega (arith, c.value.ensures, value_most (get_or c.args.digits.now c.loop-i.i 0))
-
-pub overflow_add-out : goal.overflow_add-out
-overflow_add-out c = omega (arith, c.value.ensures, value_most (get_or c.args.digits.now c.loop-i.i 0), c.value-in-loop-i.ensures, value_most (get_or c.args.digits.now (c.loop-i.i + 1) 0))
-
-pub bounds-out-at : goal.bounds-out-at
-bounds-out-at c = omega (arith, sum (pair c.loop-i.i c.args.digits.now c.loop-i.invariant.1 c.loop-i-test.true))
-
-pub overflow_add-at : goal.overflow_add-at
-overflow_add-at c = omega (arith, sum (pair c.loop-i.i c.args.digits.now c.loop-i.invariant.1 c.loop-i-test.true))
-
+-- one pair more
 pub loop-i-preserved : goal.loop-i-preserved
-loop-i-preserved c = (omega arith, stored (cc) (pair c.loop-i.i c.args.digits.now c.loop-i.invariant.1 c.loop-i-test.true))
+loop-i-preserved c =
+    let s = c.args.digits.now in
+    let within : c.loop-i.i < length s / 2 = omega (arith, c.as_chunks.ensures.front_len) in
+    let pairs : c.as_chunks.result.0.now ≡ first_chunks 2 (length s / 2) s = c.as_chunks.ensures.front in
+    rw (c.loop-i.invariant, c.value.ensures, c.value-in-loop-i.ensures, pairs) (pair_put c.loop-i.i s c.args.out.now within (omega (arith, bytes_count s)))
 
-pub shape_of-out : goal.shape_of-out
-shape_of-out c = c.loop-i.invariant.1.same
-
+-- all of them
 pub returns : goal.returns
-returns c = pairs_end c.loop-i.i c.args.digits.now c.loop-i.invariant.1 c.loop-i-test.false
+returns c =
+    let s = c.args.digits.now in
+    let count : length c.as_chunks.result.0.now ≡ length s / 2 = c.as_chunks.ensures.front_len in
+    let end : c.loop-i.i ≡ length s / 2 = omega arith in
+    rw count (put_front (sym (bytes_count s)) (let e = rw (end, all_pairs s) at c.loop-i.invariant in e))

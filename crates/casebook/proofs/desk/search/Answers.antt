@@ -7,11 +7,7 @@ use Rattle.text.proofs.Texts.{bytes_length}
 use Rattle.caselines.proofs.Eights.{entries_most_lem}
 use Rattle.casebook.proofs.desk.search.Goals as goal
 
--- the UIDs' bytes have room in their buffer
-pub put_bytes-k-requires : goal.put_bytes-k-requires
-put_bytes-k-requires c = omega (arith, bytes_length c.args.digits.now)
-
--- the UIDs have room in theirs
+-- the UIDs have room in their buffer
 pub put_entries-tags-requires : goal.put_entries-tags-requires
 put_entries-tags-requires c =
     let digits = c.args.digits.now in

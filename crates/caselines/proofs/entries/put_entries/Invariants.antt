@@ -9,6 +9,3 @@ use Rattle.caselines.proofs.entries.put_entries.Given as goal
 
 abbrev pub invariant-loop-i : goal.invariant-loop-i
 invariant-loop-i l = Written (entries_in l.bytes) (entries_from (length l.bytes / uid_length - l.i) (uid_length * l.i) l.bytes) l.initial.out l.out l.i
-
-abbrev pub decreases-loop-i : goal.decreases-loop-i
-decreases-loop-i l = length l.bytes / uid_length - l.i

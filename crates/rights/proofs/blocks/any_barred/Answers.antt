@@ -1,18 +1,16 @@
--- `rights::blocks::any_barred` meets its contract: what is left to ask gives the answer of the whole run.
+-- `rights::blocks::any_barred` meets its contract: the test of each block is the definition's.
 -- Assumes nothing.
-use mathlib.Core.Path.{refl, sym, ◌∙◌}
-use Rattle.rights.proofs.Runs.{barred_here, barred_later, none_left}
-use native.Mathlib.Omega.{arith}
+use Rattle.std.proofs.Common.{arith, refl, rules}
+use Rattle.std.proofs.lemmas.Iterator.{YieldsList-from_range}
+use Rattle.std.proofs.lemmas.Iterator.Search.{any_from_yields_List}
+use Rattle.rights.specs.Blocks.{barred_at}
+use Rattle.rights.proofs.Runs.{any_as_list}
 use Rattle.rights.proofs.blocks.any_barred.Goals as goal
 
-pub loop-left-init : goal.loop-left-init
-loop-left-init c = (refl, refl)
-
-pub returns-then-barred : goal.returns-then-barred
-returns-then-barred c = sym (barred_here _ _ _ c.loop-left-test.true (sym c.barred.ensures ∙ c.if-barred.true)) ∙ c.loop-left.invariant.1
-
-pub loop-left-preserved : goal.loop-left-preserved
-loop-left-preserved c = (omega arith, sym (barred_later _ _ _ c.loop-left-test.true (sym c.barred.ensures ∙ c.if-barred.false)) ∙ c.loop-left.invariant.1)
-
+-- the chain's answer, in the words of the library
 pub returns : goal.returns
-returns c = sym (none_left _ _ _ c.loop-left-test.false) ∙ c.loop-left.invariant.1
+returns c =
+    let v = c.args.v in
+    let n = c.args.count in
+    rw (any_as_list v c.args.first n)
+    (any_from_yields_List (barred_at v) _ _ _ c.any.ensures.ran (YieldsList-from_range _ _ n refl (omega arith)) (λ x b q called. search rules))

@@ -10,7 +10,7 @@ pub returns-then-hold : goal.returns-then-hold
 unfolding perform
 returns-then-hold c m =
     rw c.if-hold.true
-    (record { result = rw (c.set_front.ensures, c.set_held-front.ensures); memory = refl; room = refl })
+    (record { result = rw (c.silent.ensures, c.set_front.ensures, c.set_held-front.ensures); memory = refl; room = refl })
 
 -- it is given at once
 pub returns : goal.returns

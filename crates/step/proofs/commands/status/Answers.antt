@@ -1,68 +1,9 @@
 -- `step::commands::status` meets its contract.
 -- Assumes nothing.
-use Rattle.tag.specs.Work.{perform}
 use Rattle.step.proofs.Acts.{shown}
-use Rattle.tag.proofs.Listing.{limit_within}
-use borrow.Author.Rules.{rules}
-use native.Mathlib.Omega.{arith}
 use Rattle.step.proofs.commands.status.Goals as goal
 
-pub seen-view-requires : goal.seen-view-requires
-unfolding perform
-seen-view-requires c = search rules
-
-pub limit-limit-requires : goal.limit-limit-requires
-unfolding perform
-limit-limit-requires c = search rules
-
-pub first_block-first-requires : goal.first_block-first-requires
-unfolding perform
-first_block-first-requires c = search rules
-
-pub more_blocks-requires : goal.more_blocks-requires
-unfolding perform
-more_blocks-requires c = search rules
-
-pub overflow_cast-count : goal.overflow_cast-count
-unfolding perform
-overflow_cast-count c = search rules
-
-pub overflow_add-count : goal.overflow_add-count
-unfolding perform
-overflow_add-count c = search rules
-
-pub status_verdict-verdict-requires : goal.status_verdict-verdict-requires
-unfolding perform
-status_verdict-verdict-requires c = search rules
-
-pub enum_told-1 : goal.enum_told-1
-unfolding perform
-enum_told-1 c = search rules
-
-pub put_statuses-requires : goal.put_statuses-requires
-unfolding perform
-put_statuses-requires c = omega (arith, limit_within c.args.e c.args.blocks, c.limit-limit.ensures, c.requires)
-
-pub enum_told-in-Error : goal.enum_told-in-Error
-unfolding perform
-enum_told-in-Error c = search rules
-
-pub settle-requires : goal.settle-requires
-unfolding perform
-settle-requires c = omega (arith, c.requires)
-
-pub shape_of-room-in-Success : goal.shape_of-room-in-Success
-unfolding perform
-shape_of-room-in-Success c = search rules
-
-pub returns-in-Success : goal.returns-in-Success
-unfolding perform
-returns-in-Success c = rw (← c.limit-limit.ensures, ← c.first_block-first.ensures, ← c.more_blocks.ensures, ← c.status_verdict-verdict.ensures, ← c.seen-view.ensures, c.in-Success.is) (shown c.args.hold c.args.t _ c.put_statuses.ensures)
-
-pub shape_of-room-in-Error : goal.shape_of-room-in-Error
-unfolding perform
-shape_of-room-in-Error c = search rules
-
-pub returns-in-Error : goal.returns-in-Error
-unfolding perform
-returns-in-Error c = rw (← c.limit-limit.ensures, ← c.first_block-first.ensures, ← c.more_blocks.ensures, ← c.status_verdict-verdict.ensures, c.in-Error.is) (rw c.in-Error.is at c.settle.ensures)
+-- a body is answered at once
+pub returns-in-Ok : goal.returns-in-Ok
+returns-in-Ok c =
+    rw (← c.status_verdict.ensures, c.in-Ok.is) (shown c.args.hold c.args.t _ (rw c.seen.ensures at c.put_statuses.ensures))

@@ -1,9 +1,0 @@
--- `casebook::desk::load` is safe and ends: the image lies within its buffer.
--- Assumes nothing.
-use native.Mathlib.Omega.{arith}
-use Rattle.text.proofs.Texts.{bytes_length}
-use Rattle.casebook.proofs.desk.load.Goals as goal
-
--- the image's bytes have room in its buffer
-pub put_bytes-n-requires : goal.put_bytes-n-requires
-put_bytes-n-requires c = omega (arith, bytes_length c.args.digits.now)

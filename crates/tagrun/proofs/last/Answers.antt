@@ -1,7 +1,0 @@
--- `tagrun::last` is safe and ends: what `lines` wrote lies within out.
--- Assumes nothing.
-use Rattle.lines.proofs.Called.{call_within}
-use Rattle.tagrun.proofs.last.Goals as goal
-
-pub show-requires : goal.show-requires
-show-requires g c = call_within c.finish-f.ensures
