@@ -14,6 +14,7 @@ SECTION = re.compile(r".*?\b(?:where|mutual) *\n", re.S)
 ITEM = re.compile(
     r"(?:#\[[^\]]*\]\s*|pub(?:\([^)]*\))?\s+|ghost\s+|extern\s+\S+\s+(?=fn\b))*"
     r"(?P<word>fn|struct|enum|const|type|use|mod|impl)\b(?:<[^>]*>)?\s*(?P<name>\w+)")
+TRAIT = re.compile(r"impl(?:<[^>]*>)? (\w+(?:<[^>]*>)? for \w+)")
 CONTRACT = re.compile(r"\b(?:requires|ensures|ghost)(?:\s+\w+)?\s*$")
 OF_CRATE = re.compile(r"#!\[[^\]\n]*\]")  # a line that says something of the whole crate
 USE = re.compile(r"(?:\S+ )*use (?P<path>[^{} ]+?)(?:\.\{(?P<items>[^{}]*)\})?(?: as (?P<name>[^\s{}]+))?;?")
@@ -140,7 +141,7 @@ class Code(Source):
 
     def __init__(self, source):
         super().__init__(source, RATTLE)
-        self.functions = set()
+        self.functions = {}  # and the line of each
         self.block(0, len(self.text), "", "")
 
     def block(self, start, end, prefix, context):
@@ -175,11 +176,13 @@ class Code(Source):
         if word == "use":
             self.use(at, stop)
         elif word == "impl" or (word == "mod" and body < stop):
-            self.block(body + 1, stop - 1, name + "::", context + self.said(at, body))
+            said = self.said(at, body)
+            trait = TRAIT.match(said)  # of one trait and of one type there are several
+            self.block(body + 1, stop - 1, (prefix + trait[1] if trait else name) + "::", context + said)
         elif word == "fn":
             self.heads[name] += context + self.said(at, body)
             self.bodies[name] += self.said(body, stop)
-            self.functions.add(name)
+            self.functions[name] = self.text.count("\n", 0, re.compile(r"\bfn\b").search(self.shape, at).start()) + 1
         elif word != "mod":
             self.heads[name] += context + self.said(at, stop)
             if word in ("struct", "enum"):

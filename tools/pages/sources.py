@@ -76,7 +76,7 @@ def functions(crate, program, module="", public=True):
     file = f"crates/{crate}/src/{module.replace('::', '/') or ('main' if program else 'lib')}.rt"
     text = read(file)
     code = Code(text)
-    starts = {name: text.count("\n", 0, re.search(rf"\bfn {name.split('::')[-1]}\b", text).start()) + 1 for name in code.functions}
+    starts = code.functions
     ends = sorted(starts.values()) + [text.count("\n") + 1]
     uses = {word: path for word, path in code.uses.items() if own(path)}
     for name in sorted(code.functions, key=starts.get):
@@ -133,7 +133,7 @@ class Sources:
                 self.files[crate, folder, "/".join(below)[:-5]] = Antt(path.read_text(encoding="utf-8"), folder == "proofs")
             elif path.suffix == ".rt" and folder == "src":
                 code = Code(path.read_text(encoding="utf-8"))
-                self.code[crate] |= members(code) - code.functions
+                self.code[crate] |= members(code) - code.functions.keys()
         self.declared = {place: members(source) for place, source in self.files.items()}
         texts = {(path.parts[-3], path.stem): path.read_text(encoding="utf-8") for path in self.listed("must-fail/*.edit")}
         self.edits = {edit: changes(text) for edit, text in texts.items()}

@@ -1,5 +1,6 @@
 // "The bench holds one tag record, and each event updates that record": the record is lent by `&mut`, the step of `host` is taken on it by
-// value, and the next record is stored in its place. Memory and room are lent one by one, as `host` takes them. Any record, any bytes and any buffers are taken, as by `host`.
+// value, and the next record is stored in its place. Memory and room are lent one by one, as `host` takes them. Any record, any bytes and any buffers are
+// taken, as by `host`.
 #![tactic(auto)]
 
 ghost use Rattle.tag.specs.Step.{event_of};

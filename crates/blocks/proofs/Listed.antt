@@ -5,7 +5,7 @@ use mathlib.Core.Logic.{inl, inr}
 use mathlib.Core.Bool.{Bool, true, false}
 use mathlib.Core.List.{List, [], ◌∷◌}
 use Prim.Native.Nat.{ℕ, ◌+◌, ◌-◌, ◌*◌, ◌≤◌, ◌<◌}
-use native.Mathlib.Nat.{add-zero, sub-zero}
+use native.Mathlib.Nat.{add-zero, sub-zero, mul-add, mul-one}
 use native.Mathlib.Omega.{arith}
 use lib.ListN.{length, take, drop}
 use Rattle.std.specs.Prelude.{if◌then◌else◌}
@@ -46,9 +46,17 @@ module _ (v : View) (m : List ℕ) (limit first count : ℕ) (status : Bool) whe
       pub next_read : Next L (block_shown v m (first + n) status) (listing v m limit (first + (n + 1)) (count - (n + 1)) status) out₀ out at
       next_read = record { written = rw (listing_more v m limit (first + n) (count - n) status (omega arith) k e, after, fewer) at w }
 
+      long : 4 * limit ≤ length m → length (block_shown v m (first + n) status) ≡ (if status then 5 else 4)
+      long fits = block_length v m (first + n) status (omega arith)
+
       -- the next block has room
       pub next_room : 4 * limit ≤ length m → (if status then 5 else 4) ≤ length (take (length out - at) (drop at out))
-      next_room fits = rw (← block_length v m (first + n) status (omega arith)) (room next_read)
+      next_room fits = rw (← long fits) (room next_read)
+
+      -- and after it is the place of the one that follows, where all have one size
+      pub next_place : 4 * limit ≤ length m → {size j : ℕ} {xs ys : List ℕ} → size ≡ (if status then 5 else 4)
+          → Put (block_shown v m (first + n) status) xs ys j → size * (n + 1) ≡ size * n + j
+      next_place fits s p = rw (mul-add, mul-one, p.count, long fits, s)
 
 -- ---- status bytes alone
 

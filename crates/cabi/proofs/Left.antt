@@ -67,12 +67,17 @@ no_search_place uids x =
     if_one P (any_equal uids) (λ e. refl) (λ e.
     if_one P (ltb (length x) (length uids)) (λ e. refl) (λ e. refl))))
 
--- of a search: the number of requests, or a refusal
-pub search_by : (uids x : List ℕ) {x' : List ℕ} {n : ℕ} (r : Result ℕ Refusal) → given (number_of (result_err r)) (requests_in r) x' ≡ search_given uids x
-    → n ≡ returned r → SearchLeaves uids x x' n
+-- of a search
+pub search_by : {uids x x' : List ℕ} {n : ℕ} (number requests : ℕ) → given number requests x' ≡ search_given uids x → n ≡ result_of 0 number requests
+    → SearchLeaves uids x x' n
 unfolding search_left
-search_by uids x (Ok k) h e =
+search_by number requests h e =
     record { result = e ∙ ap (λ (g : SearchGiven). result_of 0 g.number g.requests) h; list = ap (λ (g : SearchGiven). g.list) h }
-search_by uids x (Err q) h e =
+
+-- the number of requests, or a refusal
+pub search_returned : (uids x : List ℕ) {x' : List ℕ} {n : ℕ} (r : Result ℕ Refusal) → given (number_of (result_err r)) (requests_in r) x' ≡ search_given uids x
+    → n ≡ returned r → SearchLeaves uids x x' n
+search_returned uids x (Ok k) h e = search_by 0 k h e
+search_returned uids x (Err q) h e =
     let none = no_place (Some q) (rw (ap (λ (g : SearchGiven). g.number) h) (no_search_place uids x)) in
-    record { result = rw none at e ∙ ap (λ (g : SearchGiven). result_of 0 g.number g.requests) h; list = ap (λ (g : SearchGiven). g.list) h }
+    search_by (number_of (Some q)) 0 h (rw none at e)

@@ -8,7 +8,7 @@ ghost use Rattle.packed.specs.Result.{result_of};
 ghost use Rattle.cabi.specs.Calls.{kind_in, returned, EventLeaves, LoadLeaves, SaveLeaves, FactoryLeaves, SearchLeaves};
 
 use host::{fits_image, is_image, is_memory, last_end};
-use image::rules::header_fault;
+use image::rules::{header_fault, header_right};
 use image::{reading, writing};
 use packed::{RECORD, is_record, read_record, write_passing, write_record};
 use put::fill;
@@ -127,7 +127,10 @@ fn load(bytes: &mut [u8; RECORD], image: &[u8], memory: &mut [u8]) -> Result<u64
     if !fits_image(size, length) {
         return Err(Refusal::Memory);
     }
-    header_fault(image, last_end(size))?;
+    let e = last_end(size);
+    if !header_right(image, e) {
+        header_fault(image, e)?;
+    }
     write_record(reading::load(image, memory), size, bytes);
     Ok(0)
 }

@@ -13,9 +13,10 @@ use caselines::row::{put_call, put_search};
 use packed::RECORD;
 use record::Kind;
 
-// A kind's number in the C interface.
+// A kind's number in the C interface, which takes no other for an event.
 fn number_of(kind: Kind) -> u32
-    ensures { kind_in result ≡ kind }
+    ensures meant { kind_in result ≡ kind }
+    ensures taken { result ≤ 3 }
 {
     match kind {
         Kind::FieldOn => 0,

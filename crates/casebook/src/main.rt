@@ -4,13 +4,25 @@
 
 mod desk; // desk.rt: the record and the lent buffers, and what a line does to them
 
+ghost use Rattle.std.specs.Prelude.{◌≡◌, [], ◌∷◌, ◌++◌, take};
+ghost use Rattle.caselines.specs.Limits.{line_most};
+
 use arrayvec::ArrayVec;
 use caselines::limits::{LINE, ROW};
 use desk::Desk;
 use pieces::Fault;
 use std::io;
 
-// The desk, and the line so far. It is kept up to LINE bytes, one more than the longest that has a form: a longer line has none, whatever comes.
+// One byte more of the line so far. It is kept up to LINE bytes, one more than the longest that has a form: a longer line has none, whatever comes.
+fn keep(line: &mut ArrayVec<u8, LINE>, byte: u8)
+    ensures { line.new.items ≡ take line_most (line.old.items ++ byte ∷ []) }
+{
+    if !line.is_full() {
+        line.push(byte);
+    }
+}
+
+// The desk, and the line so far.
 #[derive(Drop)]
 struct Session {
     desk: Desk,
@@ -30,9 +42,7 @@ impl Session {
         if byte == b'\n' {
             return self.end_line(rt);
         }
-        if !self.line.is_full() {
-            self.line.push(byte);
-        }
+        keep(&mut self.line, byte);
         Ok(())
     }
 

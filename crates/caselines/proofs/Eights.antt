@@ -33,9 +33,12 @@ module _ {L out₀ out : List ℕ} {i : ℕ} (n : ℕ) (bytes : List ℕ) (w : W
       let f : uid_length * (i + 1) ≡ uid_length * i + uid_length = omega arith in
       record { written = rw f (rw e at w) }
 
-  pub entries_end : i ≡ n → Put L out₀ out n
+  pub entries_end : n ≤ i → Put L out₀ out i
   unfolding entries_from
-  entries_end h = let e : n - i ≡ 0 = omega arith in rw (← h) (whole (rw e at w))
+  entries_end h = let e : n - i ≡ 0 = omega arith in whole (rw e at w)
+
+  pub entries_all : i ≡ n → Put L out₀ out n
+  entries_all h = rw (← h) (entries_end (omega arith))
 
 -- ---- bytes, of entries
 

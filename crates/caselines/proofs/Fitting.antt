@@ -47,10 +47,13 @@ module _ (memory : ℕ) where
   number_fits f (Some n) h = h
   number_fits f None h = tt
 
+  hex_fits : (l : List ℕ) → OfLine (hex_form memory l)
+  unfolding hex_form
+  hex_fits l = search (if_one OfLine, record_fits, bytes_fits, request_fits, load_fits, factory_fits, search_fits, tt) depth 14
+
   line_fits : (l : List ℕ) → OfLine (number_form memory l)
-  unfolding number_form hex_form
-  line_fits l =
-      search (if_one OfLine, number_fits, number_most, record_fits, bytes_fits, request_fits, load_fits, factory_fits, search_fits, tt) depth 14
+  unfolding number_form
+  line_fits l = search (if_one OfLine, number_fits, number_most, hex_fits) depth 14
 
   pub form_fits : (l : List ℕ) → IfSome (form_of memory l) (Fits memory)
   unfolding form_of

@@ -13,14 +13,22 @@ use Rattle.caselines.specs.declared.lent.Lent.{Lent}
 use Rattle.caselines.specs.Lent.{lent_by, Within}
 use Rattle.caselines.proofs.Fitting.{form_fits}
 
+-- what is lent after a line
+lent_fits : (f : Option Asked) (l : Lent) → IfSome f (Fits l.memory) → IfSome f (Fits (lent_by f l).memory)
+lent_fits f l h = grind arith
+
+lent_within : (f : Option Asked) (l : Lent) → IfSome f (Fits l.memory) → Within l → Within (lent_by f l)
+lent_within f l h w = grind (arith, w.memory, w.room)
+
 -- a line's form, and what is lent after it
 module _ {f : Option Asked} {lent next : Lent} (l : List ℕ) (w : Within lent) (e : f ≡ form_of lent.memory l) (g : next ≡ lent_by f lent) where
   pub next_within : Within next
-  next_within = grind (arith, w.memory, w.room, form_fits lent.memory l)
+  next_within = rw g (lent_within f lent (rw e (form_fits lent.memory l)) w)
 
   -- beside the memory that is lent then
   pub next_fits : (xs : List ℕ) → length xs ≡ memory_most → IfSome f (Fits (length (take next.memory xs)))
-  next_fits xs h = grind (arith, form_fits lent.memory l, length-take-le next.memory xs, next_within.memory)
+  next_fits xs h =
+      rw (length-take-le next.memory xs (omega (arith, h, next_within.memory)), g) (lent_fits f lent (rw e (form_fits lent.memory l)))
 
   pub room_most_lem : (xs : List ℕ) → length xs ≡ room_most → length (take next.room xs) ≤ room_most
   room_most_lem xs h = grind (arith, length-take-le next.room xs, next_within.room)

@@ -9,7 +9,7 @@ ghost use Rattle.std.specs.Prelude.{◌≡◌, ◌&&◌, ◌||◌, ◌+◌, eqb,
 ghost use Rattle.tag.specs.Step.{event_of};
 ghost use Rattle.tag.specs.Host.{EventGives, LoadGives, SaveGives, FactoryGives};
 
-use image::rules::header_fault;
+use image::rules::{header_fault, header_right};
 use image::{reading, writing};
 use record::{Kind, Outcome, Refusal, Tag};
 use rules::is_sound;
@@ -93,7 +93,10 @@ pub fn load(t: Tag, image: &[u8], memory: &mut [u8]) -> Result<Outcome, Refusal>
     if !fits_image(size, length) {
         return Err(Refusal::Memory);
     }
-    header_fault(image, last_end(size))?;
+    let e = last_end(size);
+    if !header_right(image, e) {
+        header_fault(image, e)?;
+    }
     let tag = reading::load(image, memory);
     Ok(Outcome { length: 0, tag })
 }

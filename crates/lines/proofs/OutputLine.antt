@@ -1,7 +1,7 @@
 -- An output line: number, space, what is answered, newline; how it is written, and how long it is.
 -- Assumes nothing.
 use mathlib.Core.List.{List, [], ◌∷◌, ◌++◌}
-use Prim.Native.Nat.{ℕ, ◌+◌, ◌-◌, ◌≤◌}
+use Prim.Native.Nat.{ℕ, ◌+◌, ◌-◌, ◌*◌, ◌≤◌}
 use native.Mathlib.Omega.{arith}
 use lib.ListN.{length, set, take, drop, length-append}
 use Rattle.put.specs.Put.{Put}
@@ -35,7 +35,11 @@ module _ (number mark : ℕ) (answer : List ℕ) where
       pub line_put : Put text out₀ (set line (at + 1 + k) 0x0A) (at + 1 + k + 1)
       line_put = whole (store 0x0A newline)
 
-  -- the longest answer has a line of 20,508 bytes at most
-  pub text_most : length answer ≤ 10243 → length text ≤ 20508
+  -- an answer of at most n bytes has a line of at most 22 + 2 n
+  pub text_most : (n : ℕ) → 1 ≤ n → length answer ≤ n → length text ≤ 22 + 2 * n
   unfolding text_of
-  text_most h = simp length-append (omega (arith, hex_or_most mark answer 10243 (omega arith) h, decimal_length 19 number))
+  text_most n one h = simp length-append (omega (arith, hex_or_most mark answer n one h, decimal_length 19 number))
+
+  -- the longest answer has a line of 20,508 bytes at most
+  pub longest_most : length answer ≤ 10243 → length text ≤ 20508
+  longest_most h = text_most 10243 (omega arith) h

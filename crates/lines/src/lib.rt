@@ -64,7 +64,7 @@ fn happen(
 }
 
 // The output line of a line, after which the tag is as given.
-#[tactic(auto, unfolding(crate::specs::Output::next_number), using(crate::proofs::OutputLine::text_most))]
+#[tactic(auto, unfolding(crate::specs::Output::next_number), using(crate::proofs::OutputLine::longest_most))]
 fn say(p: Progress, tag: Tag, mark: u8, answer: &[u8], out: &mut [u8; 20508]) -> Fed
     requires { length answer.now ≤ 10243 }
     ensures given { (result.progress ≡ after_line p tag)

@@ -77,8 +77,8 @@ pub fn put_number(n: u64, width: usize, out: &mut [u8]) -> usize
     width
 }
 
-// All of src goes to the start of out. The library's `copy_from_slice` calls `memmove`, and a C host is promised that `memset` alone is called. One index serves
-// both slices: of `zip`, which tests two ends, a compiler makes a slower loop.
+// All of src goes to the start of out. The library's `copy_from_slice` calls `memmove`, and a C host is promised that `memset` alone is called. One index
+// serves both slices: of `zip`, which tests two ends, a compiler makes a slower loop.
 #[tactic(auto, using(crate::proofs::Lists::byte_copied))]
 pub fn copy(src: &[u8], out: &mut [u8]) -> usize
     requires { length src.now ≤ length out.old }

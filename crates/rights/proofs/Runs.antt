@@ -2,11 +2,13 @@
 -- Assumes nothing.
 use mathlib.Core.Path.{◌≡◌, refl}
 use Prim.Native.Nat.{ℕ, zero, suc, ◌+◌}
+use native.Mathlib.Omega.{arith}
 use Rattle.std.specs.List.{list_any, range_with_len}
 use Rattle.rights.specs.declared.View.{View}
 use Rattle.rights.specs.Blocks.{barred_at, any_barred}
 
-pub any_as_list : (v : View) (b n : ℕ) → any_barred v b n ≡ list_any (barred_at v) (range_with_len b n)
+-- from the i-th block of a run on
+pub any_as_list : (v : View) (b i n : ℕ) → any_barred v (b + i) n ≡ list_any (λ k. barred_at v (b + k)) (range_with_len i n)
 unfolding any_barred
-any_as_list v b zero = refl
-any_as_list v b (suc n) = rw (any_as_list v (b + 1) n)
+any_as_list v b i zero = refl
+any_as_list v b i (suc n) = let e : b + i + 1 ≡ b + (i + 1) = omega arith in rw (e, any_as_list v b (i + 1) n)

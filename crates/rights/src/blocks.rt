@@ -98,10 +98,9 @@ pub fn crosses(a: Areas, first: u16, more: u16) -> bool
     area(a, b) != area(a, b + (more as usize))
 }
 
-// Whether any of the blocks from first on, count of them, is barred.
+// Whether any of the blocks from first on, count of them, is barred. Counted from 0, so that for a write, of four at most, a compiler makes no loop.
 pub fn any_barred(v: View, first: u16, count: u16) -> bool
     ensures { result ≡ any_barred v first count }
 {
-    let first = first as usize;
-    (first..first + count as usize).any(|block| barred(v, block))
+    (0..count).any(|n| barred(v, first as usize + n as usize))
 }

@@ -57,12 +57,15 @@ impl From<Session> for u8 {
     }
 }
 
-// Whether the session of password n is the open one.
+// Whether the session of password n is the open one. `is_some_and` was tried: a write of four blocks then takes six instructions more, and misses its aim.
 #[tactic(auto, unfolding(crate::specs::Passwords::is_open))]
 pub fn is_open(s: Option<Session>, n: u8) -> bool
     ensures { result ≡ is_open s n }
 {
-    s.is_some_and(|session| u8::from(session) == n)
+    match s {
+        None => false,
+        Some(session) => u8::from(session) == n,
+    }
 }
 
 // "Present B3h .. number over 3 is 10h, sessions unchanged. Wrong value: 0Fh, no session open. Right: that session alone is open."

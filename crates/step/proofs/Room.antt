@@ -53,15 +53,19 @@ flagged L {zs} {n} {k} x xs room e f s =
     record { count = t.count; is = t.is ∙ ap (λ (l : List ℕ). 0 ∷ L ++ l) (drop_at L (drop (length L) xs) (length L) refl) }
 
 -- as the room is lent from the second byte on
-pub body_put : {L ys zs : List ℕ} {n k : ℕ} (xs : List ℕ) → length xs ≡ 10243 → Put L (take 10242 (drop 1 xs)) ys n
-    → Put (0 ∷ take n (drop 1 (take 1 xs ++ (ys ++ drop 10242 (drop 1 xs))))) (take 1 xs ++ (ys ++ drop 10242 (drop 1 xs))) zs k
+pub body_put : {L ys zs : List ℕ} {n k : ℕ} (xs : List ℕ) → 0 < length xs → Put L (take (length xs - 1) (drop 1 xs)) ys n
+    → Put (0 ∷ take n (drop 1 (take 1 xs ++ (ys ++ drop (length xs - 1) (drop 1 xs))))) (take 1 xs ++ (ys ++ drop (length xs - 1) (drop 1 xs))) zs k
     → Put (0 ∷ L) xs zs k
 body_put [] h p s = absurd (omega arith)
-body_put {L} {ys} (x ∷ xs) h p s =
-    let e : 10242 ≡ length (x ∷ xs) - 1 = omega (arith, h) in
-    let q : take 1 (x ∷ xs) ++ (ys ++ drop 10242 (drop 1 (x ∷ xs))) ≡ take 1 (x ∷ xs) ++ (L ++ drop (1 + length L) (x ∷ xs)) =
-    rw e (put_tail (x ∷ xs) ys L 1 (rw e at p.is)) in
-    flagged L x xs _ (q ∙ rw one-add) p.count s
+body_put {L} {ys} (x ∷ xs) h p s = flagged L x xs _ (put_tail (x ∷ xs) ys L 1 p.is ∙ rw one-add) p.count s
+
+-- of the room that `step` has
+pub room_put : {L ys zs : List ℕ} {n k : ℕ} (xs : List ℕ) → length xs ≡ 10243 → Put L (take 10242 (drop 1 xs)) ys n
+    → Put (0 ∷ take n (drop 1 (take 1 xs ++ (ys ++ drop 10242 (drop 1 xs))))) (take 1 xs ++ (ys ++ drop 10242 (drop 1 xs))) zs k
+    → Put (0 ∷ L) xs zs k
+room_put xs h p s =
+    let e : 10242 ≡ length xs - 1 = omega (arith, h) in
+    body_put xs (omega (arith, h)) (rw e at p) (rw e at s)
 
 -- and of a room lent so there is space for the flags byte and the CRC
 pub body_fits : {L ys : List ℕ} {n : ℕ} (k : ℕ) (xs : List ℕ) → length L ≤ k → k + 3 ≤ length xs → Put L (take (length xs - 1) (drop 1 xs)) ys n

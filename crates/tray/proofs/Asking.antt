@@ -3,17 +3,17 @@
 use mathlib.Core.Path.{◌≡◌, refl, sym, ap, ◌∙◌}
 use mathlib.Core.Bool.{Bool}
 use mathlib.Core.List.{List, [], ◌∷◌, ◌++◌}
-use Prim.Native.Nat.{ℕ, suc, ◌+◌, ◌*◌, ◌-◌, ◌/◌, ◌%◌, ◌^◌, ◌≤◌, ◌<◌}
+use Prim.Native.Nat.{ℕ, suc, ◌+◌, ◌*◌, ◌-◌, ◌/◌, ◌≤◌, ◌<◌}
 use native.Mathlib.Omega.{arith}
 use lib.ListN.{length, take, drop, get_or, set}
 use Rattle.std.specs.Prelude.{Option, Some}
 use Rattle.std.proofs.lemmas.List.{nil_from_length}
 use Rattle.std.specs.List.{find}
 use Rattle.put.proofs.Written.{Written, Next, none, room, more, whole}
-use Rattle.tag.specs.Inventory.{fits}
+use Rattle.tag.specs.Inventory.{next_four, fits}
 use Rattle.tray.specs.Tray.{speaks_in, those, joined, total, longer, heard, found, answering}
 use Rattle.tray.specs.Steps.{costs, requests, above, slot_finds, slot_sends, Listened, Asks, Asked, AsksSlot, AskedSlot}
-use Rattle.tray.proofs.Slots.{answer_longer}
+use Rattle.tray.proofs.Slots.{answer_longer, longer_below}
 use Rattle.tray.proofs.Count.{requests_few}
 
 -- ---- a request is its slots
@@ -32,17 +32,26 @@ module _ (uids : List ℕ) (mask bits : ℕ) (h : bits ≤ 60) where
   sends = rw one_less
 
 -- so many slots are done
-pub record Asking (uids : List ℕ) (mask bits : ℕ) (tally out₀ out : List ℕ) (at sent slot : ℕ) : Type 0 where
+pub record Asking (uids : List ℕ) (mask bits tally : ℕ) (out₀ out : List ℕ) (at sent slot : ℕ) : Type 0 where
+  pub asks : Asks uids mask bits out₀
+  pub some : 0 < above bits
   pub listened : Listened uids mask bits tally
+  pub slots : slot ≤ 16
   pub written : Written (found (above bits) uids mask bits) (joined (slot_finds uids mask bits) (16 - slot) slot) out₀ out at
   pub sum : sent + total (slot_sends uids mask bits) (16 - slot) slot ≡ requests (above bits) uids mask bits
 
-pub asking : {uids out tally : List ℕ} {mask bits : ℕ} → Asks uids mask bits out → bits ≤ 60 → Listened uids mask bits tally
+pub asking : {uids out : List ℕ} {mask bits tally : ℕ} → Asks uids mask bits out → bits ≤ 60 → Listened uids mask bits tally
     → Asking uids mask bits tally out out 0 1 0
-asking {uids} {out} {tally} {mask} {bits} a h l =
-    record { listened = l; written = rw (← finds uids mask bits h) (none a.room); sum = sym (sends uids mask bits h) }
+asking {uids} {out} {mask} {bits} a h l = record {
+  asks = a;
+  some = omega arith;
+  listened = l;
+  slots = omega arith;
+  written = rw (← finds uids mask bits h) (none a.room);
+  sum = sym (sends uids mask bits h);
+}
 
-module _ {uids : List ℕ} {mask bits : ℕ} {tally out₀ out : List ℕ} {at sent slot : ℕ} (a : Asking uids mask bits tally out₀ out at sent slot) where
+module _ {uids : List ℕ} {mask bits tally : ℕ} {out₀ out : List ℕ} {at sent slot : ℕ} (a : Asking uids mask bits tally out₀ out at sent slot) where
   pub asked : 16 ≤ slot → Asked uids mask bits out₀ out at sent
   unfolding joined total
   asked h =
@@ -55,8 +64,15 @@ module _ {uids : List ℕ} {mask bits : ℕ} {tally out₀ out : List ℕ} {at s
     unfolding joined
     next = let e : 16 - slot ≡ suc (16 - (slot + 1)) = omega arith in record { written = rw e at a.written }
 
-    pub asks_slot : AsksSlot uids mask bits slot (get_or tally slot 0) (take (length out - at) (drop at out))
-    asks_slot = record { count = a.listened.counts slot h; room = room next }
+    pub asks_slot : AsksSlot uids mask bits slot tally (take (length out - at) (drop at out))
+    asks_slot = record {
+      span = omega (arith, a.asks.span, a.some);
+      low = a.asks.low;
+      few = a.asks.few;
+      slots = h;
+      listened = a.listened;
+      room = room next;
+    }
 
     module _ {ys : List ℕ} {n k : ℕ} (g : AskedSlot uids mask bits slot (take (length out - at) (drop at out)) ys n k) where
       sent_then : sent + k + total (slot_sends uids mask bits) (16 - (slot + 1)) (slot + 1) ≡ requests (above bits) uids mask bits
@@ -67,14 +83,14 @@ module _ {uids : List ℕ} {mask bits : ℕ} {tally out₀ out : List ℕ} {at s
           omega (arith, g.sends)
 
       -- the sum fits
-      pub few : mask < 2 ^ bits → length uids ≤ 256 → sent + k ≤ 1921
-      few m f =
+      pub few : sent + k ≤ 1921
+      few =
           let l : above bits ≤ 16 = omega arith in
-          let r : requests (above bits) uids mask bits ≤ 1 + 15 * (length uids / 2) = requests_few uids (above bits) mask bits m l in
-          omega (arith, sent_then)
+          let r : requests (above bits) uids mask bits ≤ 1 + 15 * (length uids / 2) = requests_few uids (above bits) mask bits a.asks.low l in
+          omega (arith, sent_then, a.asks.few)
 
       pub again : Asking uids mask bits tally out₀ (take at out ++ (ys ++ drop (length out - at) (drop at out))) (at + n) (sent + k) (slot + 1)
-      again = record { listened = a.listened; written = more next g.put; sum = sent_then }
+      again = record { asks = a.asks; some = a.some; listened = a.listened; slots = omega arith; written = more next g.put; sum = sent_then }
 
 -- ---- what a slot's answers lead to
 
@@ -100,16 +116,17 @@ unfolding those
 first_found test [] e = absurd cc
 first_found test (v ∷ us) e = grind (arith, first_found test us)
 
-module _ {uids : List ℕ} {mask bits slot answers : ℕ} {out : List ℕ} (a : AsksSlot uids mask bits slot answers out) where
+module _ {uids : List ℕ} {mask bits slot tally : ℕ} {out : List ℕ} (a : AsksSlot uids mask bits slot tally out)
+    {answers : ℕ} (r : answers ≡ next_four tally (4 * slot)) where
   pub slot_none : answers ≡ 0 → AskedSlot uids mask bits slot out out 0 0
   unfolding heard costs
   slot_none e =
-      let q : answering uids mask bits slot ≡ [] = nil_from_length _ (omega (arith, a.count)) in
+      let q : answering uids mask bits slot ≡ [] = nil_from_length _ (omega (arith, a.listened.answers slot)) in
       record { put = rw q (record { count = refl; is = refl }); sends = rw q }
 
   module _ (one : answers ≡ 1) where
     the_answer : answering uids mask bits slot ≡ get_or (answering uids mask bits slot) 0 0 ∷ []
-    the_answer = one_answer _ (omega (arith, a.count))
+    the_answer = one_answer _ (omega (arith, a.listened.answers slot))
 
     pub one_room : 0 < length out
     unfolding heard
@@ -118,9 +135,9 @@ module _ {uids : List ℕ} {mask bits slot answers : ℕ} {out : List ℕ} (a : 
     pub one_found : find (speaks_in mask bits slot) uids ≡ Some (get_or (answering uids mask bits slot) 0 0)
     one_found = first_found (speaks_in mask bits slot) uids the_answer
 
-    pub slot_one : {r : Option ℕ} {u : ℕ} → r ≡ find (speaks_in mask bits slot) uids → r ≡ Some u → AskedSlot uids mask bits slot out (set out 0 u) 1 0
+    pub slot_one : {v : Option ℕ} {u : ℕ} → v ≡ find (speaks_in mask bits slot) uids → v ≡ Some u → AskedSlot uids mask bits slot out (set out 0 u) 1 0
     unfolding heard costs
-    slot_one {r} {u} e f =
+    slot_one {v} {u} e f =
         let s : Some u ≡ Some (get_or (answering uids mask bits slot) 0 0) = sym f ∙ e ∙ one_found in
         let g : get_or (answering uids mask bits slot) 0 0 ≡ u = cc in
         let q : answering uids mask bits slot ≡ u ∷ [] = the_answer ∙ rw g in
@@ -128,18 +145,24 @@ module _ {uids : List ℕ} {mask bits slot answers : ℕ} {out : List ℕ} (a : 
 
   module _ (two : 2 ≤ answers) where
     -- the tags differ in 64 bits, so that there is a group for a longer mask
-    pub not_last : ((m : ℕ) → length (those (fits m 64) uids) < 2) → mask < 2 ^ bits → bits ≤ 60 → bits % 4 ≡ 0 → bits ≤ 56
-    not_last differ m h d =
-        grind (arith, ap length (answer_longer mask bits slot m uids), a.count, differ (longer mask bits slot))
+    pub not_last : ((m : ℕ) → length (those (fits m 64) uids) < 2) → bits ≤ 56
+    not_last differ =
+        grind (arith, ap length (answer_longer mask bits slot a.low uids), a.listened.answers slot, a.span, differ (longer mask bits slot))
 
     goes : (slot_finds uids mask bits slot ≡ found (above (bits + 4)) uids (longer mask bits slot) (bits + 4))
         × (slot_sends uids mask bits slot ≡ requests (above (bits + 4)) uids (longer mask bits slot) (bits + 4))
     goes =
-        collision _ (omega (arith, a.count)) (found (above (bits + 4)) uids) (requests (above (bits + 4)) uids) (longer mask bits slot) (bits + 4)
+        collision _ (omega (arith, a.listened.answers slot))
+        (found (above (bits + 4)) uids)
+        (requests (above (bits + 4)) uids)
+        (longer mask bits slot)
+        (bits + 4)
 
     module _ {m b : ℕ} (e : m ≡ longer mask bits slot) (f : b ≡ bits + 4) where
       pub slot_asks : Asks uids m b out
-      slot_asks = rw (e, f) (record { room = rw goes.0 at a.room })
+      slot_asks =
+          rw (e, f)
+          (record { span = omega (arith, a.span); low = longer_below mask bits slot a.low a.slots; few = a.few; room = rw goes.0 at a.room })
 
       pub slot_again : {ys : List ℕ} {n k : ℕ} → Asked uids m b out ys n k → AskedSlot uids mask bits slot out ys n k
       slot_again {ys} {n} {k} g =

@@ -1,10 +1,11 @@
 -- The call's outcomes, by its tests.
 -- Assumes nothing.
-use mathlib.Core.Path.{◌≡◌, sym, ◌∙◌}
+use mathlib.Core.Path.{◌≡◌, refl, sym, ◌∙◌}
 use mathlib.Core.Bool.{true, false}
 use mathlib.Core.List.{List, [], ◌∷◌}
 use Prim.Native.Nat.{ℕ, suc, ◌^◌, ◌≤◌, ◌<◌}
 use native.Mathlib.Omega.{arith}
+use lib.Pow.{pow_pos}
 use lib.ListN.{length, get_or}
 use borrow.Author.Tests.{lt-ltb, le-ltb}
 use Rattle.std.proofs.Common.{Fits, w64}
@@ -35,7 +36,7 @@ module _ (uids room : List ℕ) where
 
       module _ (l : length uids ≤ length room) (ok : Each (λ u. u < 2 ^ 64) uids) where
         pub search_asks : Asks uids 0 0 room
-        search_asks = record { room = omega (arith, as_many uids ok (sym d)) }
+        search_asks = record { span = refl; low = pow_pos 0; few = h; room = omega (arith, as_many uids ok (sym d)) }
 
         pub searched : {after : List ℕ} {n k : ℕ} → Asked uids 0 0 room after n k → given 0 k after ≡ search_given uids room
         unfolding search_given

@@ -3,25 +3,23 @@
 use mathlib.Core.Path.{◌≡◌, refl, ◌∙◌}
 use mathlib.Core.Bool.{Bool, false, ◌||◌}
 use mathlib.Core.List.{List, [], ◌∷◌}
-use Prim.Native.Nat.{ℕ, ◌+◌, ◌*◌, ◌-◌, ◌/◌, ◌%◌, ◌^◌, ◌≤◌, ◌<◌}
-use native.Mathlib.Nat.{lt_of_lt_of_le}
+use Prim.Native.Nat.{ℕ, min, ◌+◌, ◌*◌, ◌-◌, ◌/◌, ◌%◌, ◌^◌, ◌≤◌, ◌<◌}
+use native.Mathlib.Nat.{lt_of_lt_of_le, zero-div}
 use native.Mathlib.Numerals.{add-one}
 use native.Mathlib.Omega.{arith}
 use lib.Bits.{bit_and, and_mask}
 use lib.Dec.{eqb}
 use lib.Pow.{pow_mono, shl_exact, ones_split, ones_lt, high}
-use lib.ListN.{length, take, drop, get_or, set, length-set, drop_of_length-le}
+use lib.ListN.{length, take, drop, get_or, drop_of_length-le}
 use lib.Seq.{drop-cons}
 use borrow.Author.Tests.{eqb-true, eqb-false}
 use Rattle.std.specs.Prelude.{Option, None, Some, if◌then◌else◌}
-use Rattle.std.proofs.Common.{get_or-set_same, get_or-set_other}
 use Rattle.std.specs.List.{list_any}
 use Rattle.std.specs.Option.{option_eq}
 use Rattle.put.proofs.Lists.{tail}
-use Rattle.tag.specs.Inventory.{fits}
+use Rattle.tag.specs.Inventory.{next_four, fits}
 use Rattle.tray.specs.Tray.{speaks_in, those, answering, longer, is_in, any_equal}
-use Rattle.tray.specs.Steps.{slot_in, Listened}
-use Rattle.tray.proofs.Count.{length_those}
+use Rattle.tray.specs.Steps.{slot_in, Counted, Listened}
 use Rattle.tray.proofs.Slots.{speaks_fits, longer_below}
 
 -- ---- a longer mask fits 64 bits
@@ -72,36 +70,29 @@ speaks_slot mask bits slot u = grind (arith)
 
 -- ---- a request is heard: the answers counted before a place, and those from it on
 
-pub record Listening (uids : List ℕ) (mask bits i : ℕ) (tally : List ℕ) : Type 0 where
-  pub slots : length tally ≡ 16
-  pub counts : (slot : ℕ) → slot < 16
-      → get_or tally slot 0 + length (answering (drop i uids) mask bits slot) ≡ length (answering uids mask bits slot)
+pub record Listening (uids : List ℕ) (mask bits tally i : ℕ) : Type 0 where
+  pub answers : (slot : ℕ)
+      → min 15 (next_four tally (4 * slot) + length (answering (drop i uids) mask bits slot)) ≡ min 15 (length (answering uids mask bits slot))
 
-module _ {uids tally : List ℕ} {mask bits i : ℕ} (a : Listening uids mask bits i tally) where
+pub listening : (uids : List ℕ) (mask bits : ℕ) → Listening uids mask bits 0 0
+listening uids mask bits = record { answers = λ slot. rw (zero-div (2 ^ (4 * slot))) (omega arith) }
+
+module _ {uids : List ℕ} {mask bits tally i : ℕ} (a : Listening uids mask bits tally i) where
   module _ (h : i < length uids) {r : Option ℕ} (e : r ≡ slot_in mask bits (get_or uids i 0)) where
     speaks_next : (slot : ℕ) → speaks_in mask bits slot (get_or uids i 0) ≡ option_eq eqb r (Some slot)
     speaks_next slot = speaks_slot mask bits slot (get_or uids i 0) ∙ rw e
 
     -- the next does not answer
-    pub silent_next : r ≡ None → Listening uids mask bits (i + 1) tally
-    silent_next n =
-        record {
-          slots = a.slots;
-          counts = λ slot s. rw (those_next uids i (speaks_in mask bits slot) h, speaks_next slot, n) at (a.counts slot s);
-        }
+    pub silent_next : r ≡ None → Listening uids mask bits tally (i + 1)
+    silent_next n = record { answers = λ slot. rw (those_next uids i (speaks_in mask bits slot) h, speaks_next slot, n) at (a.answers slot) }
 
     -- it answers in a slot
-    pub answers_next : {slot : ℕ} → r ≡ Some slot → Listening uids mask bits (i + 1) (set tally slot (get_or tally slot 0 + 1))
-    answers_next {slot} n = record {
-      slots = length-set tally slot _ ∙ a.slots;
-      counts = λ other s. let t = rw (those_next uids i (speaks_in mask bits other) h, speaks_next other, n) at (a.counts other s) in
-          grind (arith, t, a.slots, eqb-true slot other, eqb-false slot other, get_or-set_same {A = ℕ}, get_or-set_other {A = ℕ});
+    pub answers_next : {slot after : ℕ} → r ≡ Some slot → Counted tally slot after → Listening uids mask bits after (i + 1)
+    answers_next {slot} {after} n c = record {
+      answers = λ other. let t = rw (those_next uids i (speaks_in mask bits other) h, speaks_next other, n) at (a.answers other) in
+          grind (arith, t, c.here, c.others other, eqb-true slot other, eqb-false slot other);
     }
-
-  -- in no slot answer more than there are tags
-  pub few_answers : (slot : ℕ) → slot < 16 → get_or tally slot 0 ≤ length uids
-  few_answers slot s = omega (arith, a.counts slot s, length_those (speaks_in mask bits slot) uids)
 
   pub listened : length uids ≤ i → Listened uids mask bits tally
   unfolding those
-  listened h = record { counts = λ slot s. omega (arith, rw (drop_of_length-le uids h) at (a.counts slot s)) }
+  listened h = record { answers = λ slot. omega (arith, rw (drop_of_length-le uids h) at (a.answers slot)) }

@@ -10,6 +10,7 @@ pub mod Examples
 pub mod Shared
 pub mod Frames
 pub mod Tags
+pub mod Groups
 pub mod Hearing
 pub mod Asking
 pub mod Given

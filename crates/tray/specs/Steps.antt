@@ -1,6 +1,6 @@
 -- What the functions of the search ask and promise one another. No caller outside sees these.
 -- Assumes nothing.
-use Rattle.std.specs.Prelude.{ℕ, zero, suc, ◌+◌, ◌-◌, ◌/◌, ◌≤◌, ◌<◌, ◌≡◌, List, [], ◌∷◌, length, get_or, Option, None, Some, if◌then◌else◌}
+use Rattle.std.specs.Prelude.{ℕ, zero, suc, min, ◌+◌, ◌*◌, ◌-◌, ◌/◌, ◌^◌, ◌≤◌, ◌<◌, ◌≡◌, List, [], ◌∷◌, length, Option, None, Some, if◌then◌else◌}
 use Rattle.put.specs.Put.{Put}
 use Rattle.tag.specs.Inventory.{next_four, fits}
 use Rattle.tray.specs.Tray.{answering, longer, heard, found, total}
@@ -36,21 +36,33 @@ slot_sends uids mask bits slot = costs (answering uids mask bits slot) (requests
 
 -- ---- contracts
 
--- how many answer in each slot of a request
-pub record Listened (uids : List ℕ) (mask bits : ℕ) (tally : List ℕ) : Type 0 where
-  pub counts : (slot : ℕ) → slot < 16 → get_or tally slot 0 ≡ length (answering uids mask bits slot)
+-- one answer more in a slot, where a slot's answers are counted, up to 15, in the four bits that have its number
+pub record Counted (tally slot after : ℕ) : Type 0 where
+  pub here : next_four after (4 * slot) ≡ min 15 (next_four tally (4 * slot) + 1)
+  pub others : (s : ℕ) → (s ≡ slot → ⊥) → next_four after (4 * s) ≡ next_four tally (4 * s)
 
--- a request, with room for what it finds
+-- how many answer in each slot of a request, so counted
+pub record Listened (uids : List ℕ) (mask bits tally : ℕ) : Type 0 where
+  pub answers : (slot : ℕ) → next_four tally (4 * slot) ≡ min 15 (length (answering uids mask bits slot))
+
+-- a request with a mask of so many bits, the groups of four bits above it, and room for what it finds
 pub record Asks (uids : List ℕ) (mask bits : ℕ) (out : List ℕ) : Type 0 where
+  pub span : bits + 4 * above bits ≡ 64
+  pub low : mask < 2 ^ bits
+  pub few : length uids ≤ 256
   pub room : length (found (above bits) uids mask bits) ≤ length out
 
 pub record Asked (uids : List ℕ) (mask bits : ℕ) (out after : List ℕ) (count sent : ℕ) : Type 0 where
   pub put : Put (found (above bits) uids mask bits) out after count
   pub sends : sent ≡ requests (above bits) uids mask bits
 
--- one slot of it, and how many answer there
-pub record AsksSlot (uids : List ℕ) (mask bits slot answers : ℕ) (out : List ℕ) : Type 0 where
-  pub count : answers ≡ length (answering uids mask bits slot)
+-- one slot of it
+pub record AsksSlot (uids : List ℕ) (mask bits slot tally : ℕ) (out : List ℕ) : Type 0 where
+  pub span : bits + 4 * above (bits + 4) ≡ 60
+  pub low : mask < 2 ^ bits
+  pub few : length uids ≤ 256
+  pub slots : slot < 16
+  pub listened : Listened uids mask bits tally
   pub room : length (slot_finds uids mask bits slot) ≤ length out
 
 pub record AskedSlot (uids : List ℕ) (mask bits slot : ℕ) (out after : List ℕ) (count sent : ℕ) : Type 0 where

@@ -3,12 +3,12 @@
 #![tactic(auto)]
 
 ghost use Rattle.std.specs.List.{list_any};
-ghost use Rattle.std.specs.Prelude.{IfSome, ◌==◌, ◌≡◌, ℕ, ◌<◌, ◌≤◌, ◌+◌, ◌%◌, ◌^◌, find, length};
+ghost use Rattle.std.specs.Prelude.{IfSome, ◌==◌, ◌≡◌, ℕ, ◌<◌, ◌≤◌, ◌+◌, ◌*◌, ◌%◌, ◌^◌, find, length};
 ghost use Rattle.std.specs.Result.{result_err};
 ghost use Rattle.tag.specs.Host.{number_of};
-ghost use Rattle.tag.specs.Inventory.{fits};
+ghost use Rattle.tag.specs.Inventory.{next_four, fits};
 ghost use Rattle.tray.specs.Tray.{speaks_in, those, longer, any_equal, given, requests_in, search_given};
-ghost use Rattle.tray.specs.Steps.{slot_in, Listened, Asks, Asked, AsksSlot, AskedSlot};
+ghost use Rattle.tray.specs.Steps.{slot_in, Counted, Listened, Asks, Asked, AsksSlot, AskedSlot};
 
 use record::Refusal;
 
@@ -79,6 +79,35 @@ impl Slot {
     }
 }
 
+// The answers to a request, counted in one number, so that a search keeps nothing beside the list: a slot's in the four bits that have its number.
+#[derive(Clone, Copy)]
+struct Tally {
+    counts: u64,
+}
+
+impl Tally {
+    // How many answer in a slot: up to 15 are counted.
+    fn answers_in(self, slot: usize) -> u64
+        requires { slot < 16 }
+        ensures { result ≡ next_four self.counts (4 * slot) }
+    {
+        (self.counts >> (4 * slot)) % 16
+    }
+
+    // One more in a slot. Four bits hold no more than 15: a sixteenth would run over into the next slot's.
+    fn one_more(self, slot: usize) -> Tally
+        requires { slot < 16 }
+        ensures { Counted self.counts slot result.counts }
+    {
+        if self.answers_in(slot) == 15 {
+            return self;
+        }
+        Tally {
+            counts: self.counts + (1 << (4 * slot)),
+        }
+    }
+}
+
 // A tray that is searched: "up to 256 simulated tags", by their UIDs, of which no two are equal.
 #[derive(Drop)]
 struct Tray<'a> {
@@ -89,13 +118,13 @@ struct Tray<'a> {
 
 impl Tray<'_> {
     // Each tag hears a request once: how many answer in each slot.
-    fn listen(&self, mask: Mask) -> [u16; SLOTS]
-        ensures { Listened self.now.uids.now mask.value mask.bits result }
+    fn listen(&self, mask: Mask) -> Tally
+        ensures { Listened self.now.uids.now mask.value mask.bits result.counts }
     {
-        let mut tally = [0; SLOTS];
+        let mut tally = Tally { counts: 0 };
         for &uid in self.uids {
             if let Some(slot) = mask.slot_of(uid) {
-                tally[slot] += 1;
+                tally = tally.one_more(slot);
             }
         }
         tally
@@ -119,21 +148,22 @@ impl Tray<'_> {
             requests: 1,
         };
         let tally = self.listen(mask);
-        for (number, &answers) in tally.iter().enumerate() {
-            let more = self.in_slot(&mut out[found.count..], Slot { mask, number }, answers);
+        for number in 0..SLOTS {
+            let more = self.in_slot(&mut out[found.count..], Slot { mask, number }, tally);
             found.count += more.count;
             found.requests += more.requests;
         }
         found
     }
 
-    // One slot of a request, with the answers in it counted: "a slot with two or more answers is a collision, and the search goes again with the mask
+    // One slot of a request, with the answers to it counted: "a slot with two or more answers is a collision, and the search goes again with the mask
     // longer by that slot's four bits".
     #[cycle(ask_in_slot)]
-    fn in_slot(&self, out: &mut [u64], slot: Slot, answers: u16) -> Found
-        requires { AsksSlot self.now.uids.now slot.mask.value slot.mask.bits slot.number answers out.old }
+    fn in_slot(&self, out: &mut [u64], slot: Slot, tally: Tally) -> Found
+        requires { AsksSlot self.now.uids.now slot.mask.value slot.mask.bits slot.number tally.counts out.old }
         ensures { AskedSlot self.now.uids.now slot.mask.value slot.mask.bits slot.number out.old out.new result.count result.requests }
     {
+        let answers = tally.answers_in(slot.number);
         match answers {
             0 => Found {
                 count: 0,

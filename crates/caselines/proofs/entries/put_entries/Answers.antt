@@ -2,7 +2,7 @@
 -- Assumes nothing.
 use Rattle.put.proofs.Written.{sum}
 use Rattle.text.proofs.Pieces.{stored}
-use Rattle.caselines.proofs.Eights.{entry, entries_end}
+use Rattle.caselines.proofs.Eights.{entry, entries_all}
 use native.Mathlib.Omega.{arith}
 use Rattle.caselines.proofs.entries.put_entries.Goals as goal
 
@@ -16,4 +16,4 @@ loop-i-preserved c = stored c.eight_of.ensures (entry _ _ c.loop-i.invariant c.l
 
 -- no entry is left
 pub returns : goal.returns
-returns c = entries_end _ _ c.loop-i.invariant (omega arith)
+returns c = entries_all _ _ c.loop-i.invariant (omega arith)

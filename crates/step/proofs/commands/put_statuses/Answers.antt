@@ -1,8 +1,8 @@
 -- `step::commands::put_statuses` meets its contract.
 -- Assumes nothing.
 use native.Mathlib.Omega.{arith}
-use Rattle.step.proofs.Room.{body_put}
+use Rattle.step.proofs.Room.{room_put}
 use Rattle.step.proofs.commands.put_statuses.Goals as goal
 
 pub returns : goal.returns
-returns c = body_put c.args.room.now (omega arith) c.read_statuses-n.ensures c.put_success.ensures
+returns c = room_put c.args.room.now (omega arith) c.read_statuses-n.ensures c.put_success.ensures

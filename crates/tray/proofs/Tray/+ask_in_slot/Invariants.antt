@@ -11,4 +11,4 @@ abbrev pub decreases-in_slot : goal.decreases-in_slot
 decreases-in_slot l = 2 * (64 - l.slot.mask.bits) - 1
 
 abbrev pub invariant-ask-loop-number : goal.invariant-ask-loop-number
-invariant-ask-loop-number l = Asking l.self.uids.now l.mask.value l.mask.bits l.answers-items l.fn.out l.out l.found.count l.found.requests l.number
+invariant-ask-loop-number l = Asking l.self.uids.now l.mask.value l.mask.bits l.tally.counts l.fn.out l.out l.found.count l.found.requests l.number
